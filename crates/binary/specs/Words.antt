@@ -1,0 +1,12 @@
+-- Words of bits, of any length, as numbers: how many ones a word has, and in how many positions two words differ.
+use Prim.Native.Nat.{ℕ, zero, suc, _+_, _/_, _%_}
+use lib.Bits.{bitXor}
+
+-- the number of ones among the n lowest bits of a word
+unfoldable pub ones : ℕ → ℕ → ℕ
+ones zero w = 0
+ones (suc n) w = w % 2 + ones n (w / 2)
+
+-- the number of positions, of n, in which two words differ
+abbrev pub distance : ℕ → ℕ → ℕ → ℕ
+distance n a b = ones n (bitXor a b)
