@@ -2,7 +2,7 @@
 -- so a linear claim about 2 ^ n words is a computed test of n of them.
 -- Assumes nothing.
 use mathlib.Core.Path.{_≡_, refl, sym, ap, ap₂, _∙_, subst}
-use mathlib.Core.Bool.{Bool, true}
+use mathlib.Core.Bool.{Bool, true, _&&_}
 use mathlib.Core.List.{List, [], _∷_}
 use Prim.Native.Nat.{ℕ, zero, suc, _+_, _*_, _/_, _%_, _^_, _<_}
 use native.Mathlib.Numerals.{add-one}
@@ -12,7 +12,7 @@ use lib.Pow.{pow-pos, split}
 use lib.Bits.{bitXor, xor-shr, xor-mod, xor-zero-r, xor-self, xor-lt, xor-shifted}
 use lib.ListN.{length, drop, getD}
 use lib.Seq.{drop-cons}
-use Rattle.binary.proofs.Tests.{both, both-left, both-right, all}
+use Rattle.binary.proofs.Tests.{and-left, and-right, all}
 use Rattle.binary.proofs.Xor.{two-cases, bit-lt, xor-assoc, xor-swap, xor-back}
 
 -- the exclusive or of the rows at the ones of w, lowest bit first
@@ -52,7 +52,7 @@ rowSum-add (r ∷ rs) a b =
 -- every row has at most k bits
 abbrev pub short : ℕ → List ℕ → Bool
 short k [] = true
-short k (r ∷ rs) = both (ltb r (2 ^ k)) (short k rs)
+short k (r ∷ rs) = ltb r (2 ^ k) && short k rs
 
 pub pick-lt : (k r : ℕ) → r < 2 ^ k → (x : ℕ) → x < 2 → x * r < 2 ^ k
 pick-lt k r h =
@@ -64,8 +64,8 @@ pub rowSum-lt : (k : ℕ) (rs : List ℕ) → T (short k rs) → (w : ℕ) → r
 rowSum-lt k [] t w = pow-pos k
 rowSum-lt k (r ∷ rs) t w =
     xor-lt k (w % 2 * r) (rowSum rs (w / 2))
-    (pick-lt k r (ltb→lt r (2 ^ k) (both-left (ltb r (2 ^ k)) (short k rs) t)) (w % 2) (bit-lt w))
-    (rowSum-lt k rs (both-right (ltb r (2 ^ k)) (short k rs) t) (w / 2))
+    (pick-lt k r (ltb→lt r (2 ^ k) (and-left (ltb r (2 ^ k)) (short k rs) t)) (w % 2) (bit-lt w))
+    (rowSum-lt k rs (and-right (ltb r (2 ^ k)) (short k rs) t) (w / 2))
 
 -- one turn of a loop over the rows: the sum so far takes in row i where the lowest bit left is 1
 pub rowSum-turn :
@@ -99,6 +99,6 @@ module _ (f g : ℕ → ℕ) (A : Additive f) (B : Additive g) where
       let e : w ≡ bitXor (w / 2 ^ n * 2 ^ n) (w % 2 ^ n) = sym (split w n) ∙ sym (xor-shifted (w / 2 ^ n) n (w % 2 ^ n) (mod-lt w (pow-pos n))) in
       ap f e ∙ A (w / 2 ^ n * 2 ^ n) (w % 2 ^ n)
       ∙ ap₂ bitXor
-      (same-bit (2 ^ n) (eqb→eq (f (2 ^ n)) (g (2 ^ n)) (both-left (sameAt f g n) (all (sameAt f g) n) t)) (w / 2 ^ n) (top-bit-lt n w h))
-      (agree n (both-right (sameAt f g n) (all (sameAt f g) n) t) (w % 2 ^ n) (mod-lt w (pow-pos n)))
+      (same-bit (2 ^ n) (eqb→eq (f (2 ^ n)) (g (2 ^ n)) (and-left (sameAt f g n) (all (sameAt f g) n) t)) (w / 2 ^ n) (top-bit-lt n w h))
+      (agree n (and-right (sameAt f g n) (all (sameAt f g) n) t) (w % 2 ^ n) (mod-lt w (pow-pos n)))
       ∙ sym (B (w / 2 ^ n * 2 ^ n) (w % 2 ^ n)) ∙ ap g (sym e)

@@ -1,0 +1,109 @@
+-- What is read off a column (its parity, its projection and the products of that, its top bit) is linear on its sixteen values, by a test of
+-- them; so it adds up when two words are added, and so does a number that is made of such pieces side by side.
+-- Assumes nothing.
+use mathlib.Core.Path.{_≡_, refl, sym, ap, ap₂, _∙_}
+use mathlib.Core.Bool.{Bool}
+use mathlib.Core.List.{List, [], _∷_}
+use Prim.Native.Nat.{ℕ, _+_, _*_, _/_, _%_, _^_, _<_}
+use native.Mathlib.Nat.{mod-lt}
+use native.Mathlib.Omega.{arith}
+use lib.Dec.{T, eqb, eqb→eq, lit<}
+use lib.Arith.{digits-lt}
+use lib.Pow.{pow-pos, pow-add}
+use lib.Bits.{bitXor, bitAnd, xor-shr, xor-mod, xor-lt, xor-block, xor-add-and}
+use Rattle.binary.proofs.Tests.{all, below}
+use Rattle.binary.proofs.Xor.{xor-swap}
+use Rattle.binary.proofs.Linear.{rowSum, rowSum-add, rowSum-lt, short}
+use Rattle.code.specs.Characters.{_⊗_, w, v}
+use Rattle.code.specs.Array.{bit, parity, topRow, projection}
+
+-- z is the sum of x and y, which have at most k bits
+pub record Added (k x y z : ℕ) : Type 0 where
+  pub sum : z ≡ bitXor x y
+  pub left : x < 2 ^ k
+  pub right : y < 2 ^ k
+
+pub added-xor : {k x y z x′ y′ z′ : ℕ} → Added k x y z → Added k x′ y′ z′ → Added k (bitXor x x′) (bitXor y y′) (bitXor z z′)
+added-xor {k} {x} {y} {z} {x′} {y′} {z′} s t = record {
+  sum = ap₂ bitXor (s .sum) (t .sum) ∙ xor-swap x y x′ y′;
+  left = xor-lt k x x′ (s .left) (t .left);
+  right = xor-lt k y y′ (s .right) (t .right);
+}
+
+-- two pieces side by side, the second of k bits
+pub side-by-side :
+    {j x y z : ℕ} (k : ℕ) {x′ y′ z′ : ℕ}
+    → Added j x y z
+    → Added k x′ y′ z′
+    → Added (j + k) (x * 2 ^ k + x′) (y * 2 ^ k + y′) (z * 2 ^ k + z′)
+side-by-side {j} {x} {y} k {x′} {y′} s t = record {
+  sum = ap₂ (λ (p q : ℕ). p * 2 ^ k + q) (s .sum) (t .sum) ∙ sym (xor-block k x y x′ y′ (t .left) (t .right));
+  left = rw pow-add (digits-lt (s .left) (t .left));
+  right = rw pow-add (digits-lt (s .right) (t .right));
+}
+
+same-parity : (sum carry x y : ℕ) → sum + carry * 2 ≡ x + y → (x + y) % 2 ≡ sum % 2
+same-parity sum carry x y e = omega arith
+
+parity-plus : (x y : ℕ) → (x + y) % 2 ≡ bitXor (x % 2) (y % 2)
+parity-plus x y = same-parity (bitXor x y) (bitAnd x y) x y (xor-add-and x y) ∙ xor-mod x y 1
+
+-- the parity of z is the sum of those of x and y
+record AddedParity (x y z : ℕ) : Type 0 where
+  parities : Added 1 (x % 2) (y % 2) (z % 2)
+
+added-plus : {x y z x′ y′ z′ : ℕ} → AddedParity x y z → AddedParity x′ y′ z′ → AddedParity (x + x′) (y + y′) (z + z′)
+added-plus {x} {y} {z} {x′} {y′} {z′} s t = record
+    { parities = rw (parity-plus x x′, parity-plus y y′, parity-plus z z′) (added-xor (s .parities) (t .parities)) }
+
+-- f is the row sum of the rows at a column
+abbrev linear : (ℕ → ℕ) → List ℕ → ℕ → Bool
+linear f rows col = eqb (f col) (rowSum rows col)
+
+module _ (f : ℕ → ℕ) (rows : List ℕ) (t : T (all (linear f rows) 16)) where
+  at-column : (s word : ℕ) → f (word / 2 ^ s % 2 ^ 4) ≡ rowSum rows (word / 2 ^ s % 2 ^ 4)
+  at-column s word =
+      let col = word / 2 ^ s % 2 ^ 4 in
+      eqb→eq (f col) (rowSum rows col) (below (linear f rows) 16 t col (mod-lt (word / 2 ^ s) (pow-pos 4)))
+
+  -- what f reads off the column that stands s bits up, of two words and of their sum
+  read-off : (k : ℕ) → T (short k rows) → (a b s : ℕ) → Added k (f (a / 2 ^ s % 2 ^ 4)) (f (b / 2 ^ s % 2 ^ 4)) (f (bitXor a b / 2 ^ s % 2 ^ 4))
+  read-off k q a b s = record {
+    sum =
+        at-column s (bitXor a b)
+        ∙ ap (rowSum rows) (ap (λ (x : ℕ). x % 2 ^ 4) (xor-shr a b s) ∙ xor-mod (a / 2 ^ s) (b / 2 ^ s) 4)
+        ∙ rowSum-add rows (a / 2 ^ s % 2 ^ 4) (b / 2 ^ s % 2 ^ 4)
+        ∙ sym (ap₂ bitXor (at-column s a) (at-column s b));
+    left = rw (at-column s a) (rowSum-lt k rows q (a / 2 ^ s % 2 ^ 4));
+    right = rw (at-column s b) (rowSum-lt k rows q (b / 2 ^ s % 2 ^ 4));
+  }
+
+module _ (a b : ℕ) where
+  pub parity-read : (s : ℕ) → Added 1 (parity (a / 2 ^ s % 16)) (parity (b / 2 ^ s % 16)) (parity (bitXor a b / 2 ^ s % 16))
+  parity-read = read-off parity (1 ∷ 1 ∷ 1 ∷ 1 ∷ []) tt 1 tt a b
+
+  pub top-read : (s : ℕ) → Added 1 (bit 1 (a / 2 ^ s % 16)) (bit 1 (b / 2 ^ s % 16)) (bit 1 (bitXor a b / 2 ^ s % 16))
+  top-read = read-off (bit 1) (0 ∷ 0 ∷ 0 ∷ 1 ∷ []) tt 1 tt a b
+
+  pub projection-read : (s : ℕ) → Added 2 (projection (a / 2 ^ s % 16)) (projection (b / 2 ^ s % 16)) (projection (bitXor a b / 2 ^ s % 16))
+  projection-read = read-off projection (3 ∷ 2 ∷ 1 ∷ 0 ∷ []) tt 2 tt a b
+
+  pub projection-w-read :
+      (s : ℕ) → Added 2 (projection (a / 2 ^ s % 16) ⊗ w) (projection (b / 2 ^ s % 16) ⊗ w) (projection (bitXor a b / 2 ^ s % 16) ⊗ w)
+  projection-w-read = read-off (λ col. projection col ⊗ w) (1 ∷ 3 ∷ 2 ∷ 0 ∷ []) tt 2 tt a b
+
+  pub projection-v-read :
+      (s : ℕ) → Added 2 (projection (a / 2 ^ s % 16) ⊗ v) (projection (b / 2 ^ s % 16) ⊗ v) (projection (bitXor a b / 2 ^ s % 16) ⊗ v)
+  projection-v-read = read-off (λ col. projection col ⊗ v) (2 ∷ 1 ∷ 3 ∷ 0 ∷ []) tt 2 tt a b
+
+  top-parity : (s : ℕ) → AddedParity (bit 1 (a / 2 ^ s % 16)) (bit 1 (b / 2 ^ s % 16)) (bit 1 (bitXor a b / 2 ^ s % 16))
+  top-parity s = record { parities = read-off (λ col. bit 1 col % 2) (0 ∷ 0 ∷ 0 ∷ 1 ∷ []) tt 1 tt a b s }
+
+  none : AddedParity 0 0 0
+  none = record { parities = record { sum = refl; left = lit< tt; right = lit< tt } }
+
+  pub topRow-read : Added 1 (topRow a) (topRow b) (topRow (bitXor a b))
+  topRow-read =
+      added-plus (top-parity 20)
+      (added-plus (top-parity 16)
+      (added-plus (top-parity 12) (added-plus (top-parity 8) (added-plus (top-parity 4) (added-plus (top-parity 0) none))))) .parities

@@ -1,0 +1,5 @@
+pub mod Cases
+pub mod Columns
+pub mod Syndromes
+pub mod Encoding
+pub mod Distances

@@ -1,0 +1,21 @@
+-- Document 01, "Cases on both sides": the examples marked *, as one table.
+use mathlib.Core.Bool.{Bool}
+use mathlib.Core.List.{List, [], _∷_}
+use Prim.Native.Nat.{ℕ}
+use lib.Dec.{eqb}
+use Rattle.code.specs.Code.{codewordOf, syndromeOf}
+
+pub data Case : Type 0 where
+  codeword : ℕ → ℕ → Case
+  syndrome : ℕ → ℕ → Case
+
+unfoldable pub cases : List Case
+cases =
+    codeword 0x000 0x000000 ∷ codeword 0x800 0x777778 ∷ codeword 0x400 0x500536 ∷ codeword 0x200 0x300365 ∷ codeword 0x080 0x030356
+    ∷ codeword 0x020 0x003333 ∷ codeword 0x01F 0xFFFFFF ∷ syndrome 0x800000 0xF80 ∷ syndrome 0x400000 0xFDE ∷ syndrome 0x000008 0x0C0
+    ∷ syndrome 0x000001 0x083 ∷ []
+
+-- what a case says: the message and its codeword, or the word and its syndrome
+abbrev pub holds : Case → Bool
+holds (codeword m c) = eqb (codewordOf m) c
+holds (syndrome word s) = eqb (syndromeOf word) s

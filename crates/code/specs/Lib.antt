@@ -1,0 +1,4 @@
+pub mod Characters
+pub mod Array
+pub mod Code
+pub mod Cases

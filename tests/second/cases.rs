@@ -1,0 +1,111 @@
+//! The kinds of cases: which ones a seed gives, and the fixed ones that are kept as fixtures.
+
+mod golay;
+mod hard;
+mod quick;
+mod sharp;
+mod soft;
+
+use crate::chance::Chance;
+use crate::code::{Code, POSITIONS, WORDS};
+use crate::line::Case;
+
+#[cfg(test)]
+pub use hard::patterns;
+
+#[derive(Clone, Copy)]
+pub enum Kind {
+    Golay,
+    Hard,
+    Soft,
+    Quick,
+}
+
+/// The sample of the fixed cases is random too, from this seed.
+const FIXED_SEED: u64 = 1;
+
+impl Kind {
+    pub fn named(name: &str) -> Option<Kind> {
+        match name {
+            "golay" => Some(Kind::Golay),
+            "hard" => Some(Kind::Hard),
+            "soft" => Some(Kind::Soft),
+            "quick" => Some(Kind::Quick),
+            _ => None,
+        }
+    }
+
+    pub fn seeded(self, code: &Code, seed: u64) -> Result<Vec<Case>, String> {
+        let chance = &mut Chance::from_seed(seed);
+        match self {
+            Kind::Golay => Ok(golay::seeded(code, chance)),
+            Kind::Hard => Ok(hard::seeded(code, chance)),
+            Kind::Soft => soft::seeded(code, chance),
+            Kind::Quick => Ok(quick::seeded(code, chance)),
+        }
+    }
+
+    pub fn fixed(self, code: &Code) -> Result<Vec<Case>, String> {
+        let chance = &mut Chance::from_seed(FIXED_SEED);
+        match self {
+            Kind::Golay => Ok(golay::fixed(code, chance)),
+            Kind::Hard => Ok(hard::fixed(code, chance)),
+            Kind::Soft => soft::fixed(code, chance),
+            Kind::Quick => Ok(quick::fixed(code, chance)),
+        }
+    }
+}
+
+/// Words on both sides of the largest one.
+const WORD_BOUNDS: [u32; 6] = [0, WORDS - 1, WORDS, WORDS + 1, 1 << 31, u32::MAX];
+
+fn any_word(chance: &mut Chance) -> u32 {
+    chance.below(u64::from(WORDS)) as u32
+}
+
+fn any_codeword(chance: &mut Chance, code: &Code) -> u32 {
+    chance.pick(&code.codewords)
+}
+
+/// A word above the range whose lower 24 bits may be a codeword: cutting it down must not pass.
+fn word_above(chance: &mut Chance, code: &Code) -> u32 {
+    let lower = if chance.one_in(2) { any_codeword(chance, code) } else { any_word(chance) };
+    chance.between(1, 255) as u32 * WORDS | lower
+}
+
+/// A reading of another length, cut from the given one or continued by its beginning.
+fn of_length(reading: &[i32], length: usize) -> Vec<i32> {
+    reading.iter().cycle().take(length).copied().collect()
+}
+
+fn with_confidence(reading: &[i32], place: usize, confidence: i32) -> Vec<i32> {
+    let mut changed = reading.to_vec();
+    changed[place] = confidence;
+    changed
+}
+
+/// Lengths other than that of a reading.
+const WRONG_LENGTHS: [usize; 7] = [0, 1, 12, 23, 25, 26, 48];
+
+fn ones() -> Vec<i32> {
+    vec![1; POSITIONS]
+}
+
+fn zeros() -> Vec<i32> {
+    vec![0; POSITIONS]
+}
+
+/// Document 01's readings, the soft and the quick ones together.
+fn readings_of_the_document() -> Vec<Vec<i32>> {
+    let mut ends_loud = vec![2; POSITIONS];
+    ends_loud[..4].fill(-100);
+    ends_loud[20..].fill(1);
+    vec![
+        ones(),
+        with_confidence(&ones(), 0, -1),
+        zeros(),
+        with_confidence(&ones(), 0, -100),
+        ends_loud,
+        vec![i32::MAX; POSITIONS],
+    ]
+}

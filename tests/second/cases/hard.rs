@@ -1,0 +1,96 @@
+//! The cases of correction and of the six candidates.
+
+use super::{any_codeword, any_word, word_above, WORD_BOUNDS};
+use crate::chance::Chance;
+use crate::code::{Code, POSITIONS, WORDS};
+use crate::line::Case;
+use crate::readings::damaged;
+
+const EXAMPLE_WORDS: [u32; 2] = [0x777770, 0xF00000];
+const SLOT_COUNTS: [usize; 4] = [0, 5, 6, 7];
+
+const SEEDED_ROUNDS: usize = 1_000;
+const SEEDED_WORDS: usize = 100_000;
+const REPRESENTATIVES: usize = 3;
+const FIXED_ROUNDS: usize = 25;
+const FIXED_PATTERNS_EACH: usize = 15;
+
+pub fn seeded(code: &Code, chance: &mut Chance) -> Vec<Case> {
+    let mut cases = examples();
+    cases.extend(boundaries(code));
+    for pattern in patterns() {
+        cases.extend((0..REPRESENTATIVES).map(|_| Case::Correct(pattern ^ any_codeword(chance, code))));
+        cases.push(Case::Candidates(pattern ^ any_codeword(chance, code), slots(chance, 6)));
+    }
+    cases.extend((0..SEEDED_WORDS).map(|_| Case::Correct(any_word(chance))));
+    for _ in 0..SEEDED_ROUNDS {
+        cases.extend(round(code, chance));
+    }
+    cases
+}
+
+pub fn fixed(code: &Code, chance: &mut Chance) -> Vec<Case> {
+    let mut cases = examples();
+    cases.extend(boundaries(code));
+    // Every so many patterns only: the list must stay short enough to be looked at.
+    for pattern in patterns().into_iter().step_by(FIXED_PATTERNS_EACH) {
+        cases.push(Case::Correct(pattern ^ any_codeword(chance, code)));
+    }
+    for _ in 0..FIXED_ROUNDS {
+        cases.extend(round(code, chance));
+    }
+    cases
+}
+
+fn examples() -> Vec<Case> {
+    let asked = |&word: &u32| [Case::Correct(word), Case::Candidates(word, vec![7; 6])];
+    EXAMPLE_WORDS.iter().flat_map(asked).collect()
+}
+
+/// Every refusal at its boundary, and slots where several refusals apply at once: lengths, then 4, then 8.
+fn boundaries(code: &Code) -> Vec<Case> {
+    let far = EXAMPLE_WORDS[1];
+    let own = [code.codewords[1], code.codewords[1] ^ far, WORDS | far, 0x100, 0x110, 0x111];
+    let mut cases = Vec::new();
+    for &word in WORD_BOUNDS.iter().chain(own.iter()) {
+        cases.push(Case::Correct(word));
+        cases.extend(SLOT_COUNTS.iter().map(|&count| Case::Candidates(word, vec![7; count])));
+    }
+    cases
+}
+
+/// All words of at most four ones, fewest first. Added to codewords they meet every syndrome: no word lies farther.
+pub fn patterns() -> Vec<u32> {
+    let mut patterns = vec![0];
+    let mut first = 0;
+    for _ in 0..4 {
+        let end = patterns.len();
+        for i in first..end {
+            let pattern: u32 = patterns[i];
+            // Only places above the highest one, so that each pattern comes once.
+            let free = (32 - pattern.leading_zeros()) as usize;
+            patterns.extend((free..POSITIONS).map(|place| pattern | 1 << place));
+        }
+        first = end;
+    }
+    patterns
+}
+
+fn slots(chance: &mut Chance, count: usize) -> Vec<u32> {
+    (0..count).map(|_| chance.next() as u32).collect()
+}
+
+/// Words at each distance from a random codeword, any word, and a word above; each corrected and asked for candidates.
+fn round(code: &Code, chance: &mut Chance) -> Vec<Case> {
+    let mut words = vec![any_word(chance), word_above(chance, code)];
+    for errors in 0..=4 {
+        let codeword = any_codeword(chance, code);
+        words.push(damaged(chance, codeword, errors));
+    }
+    let mut cases = Vec::new();
+    for word in words {
+        cases.push(Case::Correct(word));
+        cases.extend(SLOT_COUNTS.iter().map(|&count| Case::Candidates(word, slots(chance, count))));
+    }
+    cases
+}

@@ -1,0 +1,90 @@
+//! The cases of the soft decoder and of the class figures.
+
+use super::{of_length, ones, readings_of_the_document, sharp, with_confidence, zeros, WRONG_LENGTHS};
+use crate::chance::Chance;
+use crate::code::{Code, POSITIONS};
+use crate::decoders::{CLASSES, FORBIDDEN};
+use crate::line::Case;
+use crate::readings::KINDS;
+
+const CLASSES_ABOVE: [u32; 4] = [CLASSES, CLASSES + 1, 256, u32::MAX];
+
+const SEEDED_READINGS: usize = 20_000;
+const SEEDED_CLASS_READINGS: usize = 500;
+const SEEDED_SHARP: usize = 400;
+const FIXED_READINGS: usize = 360;
+const FIXED_CLASS_READINGS: usize = 5;
+const FIXED_SHARP: usize = 40;
+
+pub fn seeded(code: &Code, chance: &mut Chance) -> Result<Vec<Case>, String> {
+    gathered(code, chance, SEEDED_READINGS, SEEDED_CLASS_READINGS, SEEDED_SHARP)
+}
+
+pub fn fixed(code: &Code, chance: &mut Chance) -> Result<Vec<Case>, String> {
+    gathered(code, chance, FIXED_READINGS, FIXED_CLASS_READINGS, FIXED_SHARP)
+}
+
+fn gathered(code: &Code, chance: &mut Chance, many: usize, classed: usize, sharp: usize) -> Result<Vec<Case>, String> {
+    let mut cases = examples();
+    cases.extend(refused_readings(code, chance));
+    cases.extend(refused_classes(code, chance));
+    cases.extend((0..many).map(|i| Case::Soft(reading(code, chance, i))));
+    for i in 0..classed {
+        let reading = reading(code, chance, i);
+        cases.extend((0..CLASSES).map(|class| Case::ClassFigure(class, reading.clone())));
+        let above = chance.between(i64::from(CLASSES), i64::from(u32::MAX)) as u32;
+        cases.push(Case::ClassFigure(above, reading));
+    }
+    cases.extend(sharp::cases(code, chance, sharp)?);
+    Ok(cases)
+}
+
+/// The kinds of readings in turn.
+fn reading(code: &Code, chance: &mut Chance, i: usize) -> Vec<i32> {
+    KINDS[i % KINDS.len()](chance, code)
+}
+
+/// Document 01's readings, and the classes at both ends of the range for each of them.
+fn examples() -> Vec<Case> {
+    let mut cases: Vec<Case> = readings_of_the_document().into_iter().map(Case::Soft).collect();
+    for reading in readings_of_the_document() {
+        cases.push(Case::ClassFigure(0, reading.clone()));
+        cases.push(Case::ClassFigure(CLASSES - 1, reading));
+    }
+    cases
+}
+
+/// Wrong lengths, the forbidden confidence at each place with its neighbour beside it, and both at once.
+fn refused_readings(code: &Code, chance: &mut Chance) -> Vec<Case> {
+    let mut cases = Vec::new();
+    for place in 0..POSITIONS {
+        let reading = reading(code, chance, place);
+        cases.push(Case::Soft(with_confidence(&reading, place, FORBIDDEN)));
+        cases.push(Case::Soft(with_confidence(&reading, place, FORBIDDEN + 1)));
+        // Refusal 2 comes before the tie that the zeros would give.
+        cases.push(Case::Soft(with_confidence(&zeros(), place, FORBIDDEN)));
+    }
+    for &length in &WRONG_LENGTHS {
+        cases.push(Case::Soft(of_length(&ones(), length)));
+        cases.push(Case::Soft(of_length(&zeros(), length)));
+        cases.push(Case::Soft(of_length(&reading(code, chance, length), length)));
+        cases.push(Case::Soft(vec![FORBIDDEN; length]));
+    }
+    cases
+}
+
+/// A class number above 127 alone, and together with the refusals that come before it: lengths, then 2.
+fn refused_classes(code: &Code, chance: &mut Chance) -> Vec<Case> {
+    let mut cases = Vec::new();
+    let classes = [0, CLASSES - 1].iter().chain(CLASSES_ABOVE.iter());
+    for (i, &class) in classes.enumerate() {
+        let reading = reading(code, chance, i);
+        cases.push(Case::ClassFigure(class, reading.clone()));
+        cases.push(Case::ClassFigure(class, with_confidence(&reading, 4 * i, FORBIDDEN)));
+        for &length in &WRONG_LENGTHS {
+            cases.push(Case::ClassFigure(class, of_length(&reading, length)));
+            cases.push(Case::ClassFigure(class, vec![FORBIDDEN; length]));
+        }
+    }
+    cases
+}

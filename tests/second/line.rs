@@ -1,0 +1,145 @@
+//! The line format of cases and answers: reading a case line, writing it back, and writing the answer line of a case.
+
+use crate::code::Code;
+use crate::decoders::{self, Refusal};
+use std::fmt::{self, Display, Formatter};
+use std::str::FromStr;
+
+#[derive(Clone, Debug, PartialEq)]
+pub enum Case {
+    Encode(u32),
+    Read(u32),
+    Syndrome(u32),
+    /// A word and the lent buffer's contents before the call.
+    WriteBytes(u32, Vec<u8>),
+    ReadBytes(Vec<u8>),
+    Correct(u32),
+    /// A word and the lent slots' contents before the call.
+    Candidates(u32, Vec<u32>),
+    ClassFigure(u32, Vec<i32>),
+    Soft(Vec<i32>),
+    Quick(Vec<i32>),
+}
+
+fn spaced<T: Display>(numbers: &[T]) -> String {
+    numbers.iter().map(|number| format!(" {number}")).collect()
+}
+
+impl Display for Case {
+    fn fmt(&self, f: &mut Formatter) -> fmt::Result {
+        match self {
+            Case::Encode(message) => write!(f, "encode {message}"),
+            Case::Read(word) => write!(f, "read {word}"),
+            Case::Syndrome(word) => write!(f, "syndrome {word}"),
+            Case::WriteBytes(word, bytes) => write!(f, "write_bytes {word}{}", spaced(bytes)),
+            Case::ReadBytes(bytes) => write!(f, "read_bytes{}", spaced(bytes)),
+            Case::Correct(word) => write!(f, "correct {word}"),
+            Case::Candidates(word, slots) => write!(f, "candidates {word}{}", spaced(slots)),
+            Case::ClassFigure(class, reading) => write!(f, "class_figure {class}{}", spaced(reading)),
+            Case::Soft(reading) => write!(f, "soft{}", spaced(reading)),
+            Case::Quick(reading) => write!(f, "quick{}", spaced(reading)),
+        }
+    }
+}
+
+fn number<T: FromStr + Display>(text: &str) -> Result<T, String> {
+    match text.parse::<T>() {
+        // One spelling a number: "+1", "01" and "-0" are no decimal numbers of the format.
+        Ok(number) if number.to_string() == text => Ok(number),
+        _ => Err(format!("'{text}' is no number in the range of its place")),
+    }
+}
+
+fn numbers<T: FromStr + Display>(texts: &[&str]) -> Result<Vec<T>, String> {
+    texts.iter().map(|text| number(text)).collect()
+}
+
+fn only<T: FromStr + Display>(texts: &[&str]) -> Result<T, String> {
+    match texts {
+        [text] => number(text),
+        _ => Err(format!("one number is expected, not {}", texts.len())),
+    }
+}
+
+fn first_and_rest<'a, 'b>(texts: &'b [&'a str]) -> Result<(u32, &'b [&'a str]), String> {
+    match texts {
+        [first, rest @ ..] => Ok((number(first)?, rest)),
+        [] => Err("a number is missing".to_string()),
+    }
+}
+
+impl Case {
+    pub fn from_line(line: &str) -> Result<Case, String> {
+        let words: Vec<&str> = line.split(' ').collect();
+        let (call, texts) = (words[0], &words[1..]);
+        match call {
+            "encode" => Ok(Case::Encode(only(texts)?)),
+            "read" => Ok(Case::Read(only(texts)?)),
+            "syndrome" => Ok(Case::Syndrome(only(texts)?)),
+            "correct" => Ok(Case::Correct(only(texts)?)),
+            "read_bytes" => Ok(Case::ReadBytes(numbers(texts)?)),
+            "soft" => Ok(Case::Soft(numbers(texts)?)),
+            "quick" => Ok(Case::Quick(numbers(texts)?)),
+            "write_bytes" => first_and_rest(texts).and_then(|(word, rest)| Ok(Case::WriteBytes(word, numbers(rest)?))),
+            "candidates" => first_and_rest(texts).and_then(|(word, rest)| Ok(Case::Candidates(word, numbers(rest)?))),
+            "class_figure" => {
+                first_and_rest(texts).and_then(|(class, rest)| Ok(Case::ClassFigure(class, numbers(rest)?)))
+            }
+            _ => Err(format!("'{call}' is no call")),
+        }
+    }
+
+    pub fn answer_line(&self, code: &Code) -> String {
+        match self {
+            Case::Encode(message) => line_of(code.encode(*message)),
+            Case::Read(word) => line_of(code.read(*word)),
+            Case::Syndrome(word) => line_of(decoders::syndrome(*word)),
+            Case::ReadBytes(bytes) => line_of(code.read_bytes(bytes)),
+            Case::Correct(word) => line_of(code.correct(*word).map(|(codeword, distance)| format!("{codeword} {distance}"))),
+            Case::ClassFigure(class, reading) => line_of(code.class_figure(*class, reading)),
+            Case::Soft(reading) => line_of(code.soft(reading).map(|answer| {
+                format!("{} {} {} {}", answer.message, answer.codeword, answer.correlation, answer.reserve)
+            })),
+            Case::Quick(reading) => line_of(code.quick(reading)),
+            Case::WriteBytes(word, bytes) => {
+                let mut lent = bytes.clone();
+                lending_line(code.write_bytes(*word, &mut lent), &lent)
+            }
+            Case::Candidates(word, slots) => {
+                let mut lent = slots.clone();
+                lending_line(code.candidates(*word, &mut lent), &lent)
+            }
+        }
+    }
+}
+
+fn line_of<T: Display>(answer: Result<T, Refusal>) -> String {
+    match answer {
+        Ok(values) => format!("answered {values}"),
+        Err(refusal) => format!("refused {}", refusal as u8),
+    }
+}
+
+/// A call that lends memory has no other value, so its line ends in the memory's later contents.
+fn lending_line<T: Display>(answer: Result<(), Refusal>, lent: &[T]) -> String {
+    match answer {
+        Ok(()) => format!("answered |{}", spaced(lent)),
+        Err(refusal) => format!("refused {} |{}", refusal as u8, spaced(lent)),
+    }
+}
+
+/// The lines of a text; a line feed ends a line, and the last line may lack it.
+pub fn lines_of(text: &str) -> Vec<&str> {
+    if text.is_empty() {
+        return Vec::new();
+    }
+    text.strip_suffix('\n').unwrap_or(text).split('\n').collect()
+}
+
+/// All cases of a text; the name says in the error where the text came from.
+pub fn cases_of(name: &str, text: &str) -> Result<Vec<Case>, String> {
+    let named = |(i, line): (usize, &&str)| {
+        Case::from_line(line).map_err(|reason| format!("{name}, line {}: {reason}", i + 1))
+    };
+    lines_of(text).iter().enumerate().map(named).collect()
+}

@@ -1,0 +1,106 @@
+//! The second program: decides by brute force, from document 01 alone, what every call must answer. Its commands are here.
+//!
+//! It shares no table and no trick with the proved code, so that a slip of the one can't be a slip of the other.
+
+mod capture;
+mod cases;
+mod chance;
+mod code;
+mod compare;
+mod decoders;
+mod line;
+mod readings;
+#[cfg(test)]
+mod tests;
+
+use cases::Kind;
+use code::Code;
+use line::Case;
+use std::fs;
+use std::io::{self, BufWriter, Read, Write};
+use std::process::exit;
+use std::time::{SystemTime, UNIX_EPOCH};
+
+const USAGE: &str = "usage: second cases KIND SEED        prints the cases of a kind that a seed gives
+       second fixed KIND             prints the fixed cases of a kind
+       second answers                reads cases, prints an answer line each
+       second compare CASES ANSWERS  compares a file of answers with its own
+       second capture FILE           prints what the capture program must print for a file
+       second seed                   prints a fresh seed
+KIND is golay, hard, soft or quick; SEED is a decimal number below 2^64";
+
+enum Failure {
+    Usage,
+    Reason(String),
+    Disagreement,
+}
+
+impl From<String> for Failure {
+    fn from(reason: String) -> Failure {
+        Failure::Reason(reason)
+    }
+}
+
+fn main() {
+    let arguments: Vec<String> = std::env::args_os().skip(1).map(|word| word.to_string_lossy().into_owned()).collect();
+    let words: Vec<&str> = arguments.iter().map(String::as_str).collect();
+    let mut out = BufWriter::new(io::stdout());
+    let done = run(&words, &mut out);
+    let flushed = out.flush().map_err(|reason| Failure::Reason(format!("standard output: {reason}")));
+    match done.and(flushed) {
+        Ok(()) => (),
+        Err(Failure::Usage) => fail(USAGE, 2),
+        Err(Failure::Reason(reason)) => fail(&format!("second: {reason}"), 1),
+        Err(Failure::Disagreement) => exit(1),
+    }
+}
+
+fn fail(message: &str, status: i32) {
+    eprintln!("{message}");
+    exit(status);
+}
+
+fn run(words: &[&str], out: &mut dyn Write) -> Result<(), Failure> {
+    let code = Code::by_the_column_rule();
+    match words {
+        ["cases", kind, seed] => {
+            let seed: u64 = seed.parse().map_err(|_| Failure::Usage)?;
+            print_all(&kind_named(kind)?.seeded(&code, seed)?, out, Case::to_string)
+        }
+        ["fixed", kind] => print_all(&kind_named(kind)?.fixed(&code)?, out, Case::to_string),
+        ["answers"] => print_all(&cases_of_standard_input()?, out, |case| case.answer_line(&code)),
+        ["compare", cases, answers] => match compare::compare(&code, cases, answers, out)? {
+            true => Ok(()),
+            false => Err(Failure::Disagreement),
+        },
+        ["capture", file] => {
+            let bytes = fs::read(file).map_err(|reason| format!("{file}: {reason}"))?;
+            print_text(&capture::output(&code, &bytes), out)
+        }
+        ["seed"] => print_text(&format!("{}\n", fresh_seed()?), out),
+        _ => Err(Failure::Usage),
+    }
+}
+
+fn kind_named(name: &str) -> Result<Kind, Failure> {
+    Kind::named(name).ok_or(Failure::Usage)
+}
+
+fn cases_of_standard_input() -> Result<Vec<Case>, String> {
+    let mut text = String::new();
+    io::stdin().read_to_string(&mut text).map_err(|reason| format!("standard input: {reason}"))?;
+    line::cases_of("standard input", &text)
+}
+
+fn print_text(text: &str, out: &mut dyn Write) -> Result<(), Failure> {
+    out.write_all(text.as_bytes()).map_err(|reason| Failure::Reason(format!("standard output: {reason}")))
+}
+
+fn print_all(cases: &[Case], out: &mut dyn Write, line: impl Fn(&Case) -> String) -> Result<(), Failure> {
+    cases.iter().try_for_each(|case| print_text(&(line(case) + "\n"), out))
+}
+
+fn fresh_seed() -> Result<u64, String> {
+    let since = SystemTime::now().duration_since(UNIX_EPOCH).map_err(|reason| format!("system clock: {reason}"))?;
+    Ok(since.as_nanos() as u64)
+}
