@@ -1,4 +1,4 @@
-//! What the capture program must print for a capture: records by document 01's mark, each decided by the soft answer.
+//! What the capture program must print: records by document 01's mark, each with its soft answer.
 
 use crate::code::{Code, POSITIONS};
 use crate::decoders::Refusal;
@@ -31,7 +31,8 @@ fn line(code: &Code, reading: &[i32]) -> String {
     }
 }
 
-/// The reading of the record that the bytes left begin with. A wrong mark is 9 even where the record is cut short too.
+/// The reading of the record that the bytes left begin with. A wrong mark is 9 even where the
+/// record is cut short too.
 fn reading_at_start(left: &[u8]) -> Result<Vec<i32>, Refusal> {
     if left.len() >= MARK.len() && left[..MARK.len()] != MARK {
         return Err(Refusal::NoMark);
@@ -40,5 +41,8 @@ fn reading_at_start(left: &[u8]) -> Result<Vec<i32>, Refusal> {
         return Err(Refusal::CutShort);
     }
     let confidence = |bytes: &[u8]| i32::from_be_bytes([bytes[0], bytes[1], bytes[2], bytes[3]]);
-    Ok(left[MARK.len()..RECORD].chunks(CONFIDENCE_BYTES).map(confidence).collect())
+    Ok(left[MARK.len()..RECORD]
+        .chunks(CONFIDENCE_BYTES)
+        .map(confidence)
+        .collect())
 }

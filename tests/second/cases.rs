@@ -69,7 +69,11 @@ fn any_codeword(chance: &mut Chance, code: &Code) -> u32 {
 
 /// A word above the range whose lower 24 bits may be a codeword: cutting it down must not pass.
 fn word_above(chance: &mut Chance, code: &Code) -> u32 {
-    let lower = if chance.one_in(2) { any_codeword(chance, code) } else { any_word(chance) };
+    let lower = if chance.one_in(2) {
+        any_codeword(chance, code)
+    } else {
+        any_word(chance)
+    };
     chance.between(1, 255) as u32 * WORDS | lower
 }
 

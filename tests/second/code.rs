@@ -1,4 +1,4 @@
-//! The extended Golay code by document 01's rules alone: characters, columns, the column rule, all 4,096 codewords, syndromes.
+//! The extended Golay code by document 01's rules alone: characters, columns, codewords, syndromes.
 
 pub const POSITIONS: usize = 24;
 pub const COLUMNS: usize = 6;
@@ -16,7 +16,9 @@ pub struct Code {
 
 impl Code {
     pub fn by_the_column_rule() -> Code {
-        Code { codewords: (0..MESSAGES).map(codeword_of).collect() }
+        Code {
+            codewords: (0..MESSAGES).map(codeword_of).collect(),
+        }
     }
 }
 
@@ -46,7 +48,10 @@ pub fn top(column: u32) -> u32 {
 
 pub fn projection(column: u32) -> u32 {
     // A bit is the character 0 or 1, so the rows' characters 0, 1, w, v multiply it.
-    times(0, bit(column, 1)) ^ times(1, bit(column, 2)) ^ times(W, bit(column, 3)) ^ times(V, bit(column, 4))
+    times(0, bit(column, 1))
+        ^ times(1, bit(column, 2))
+        ^ times(W, bit(column, 3))
+        ^ times(V, bit(column, 4))
 }
 
 /// The columns of a word, column 1 first.
@@ -59,31 +64,53 @@ pub fn columns(word: u32) -> [u32; COLUMNS] {
 }
 
 pub fn hexacodeword(a: u32, b: u32, c: u32) -> [u32; COLUMNS] {
-    [a, b, c, a ^ b ^ c, times(a, V) ^ times(b, W) ^ c, times(a, W) ^ times(b, V) ^ c]
+    [
+        a,
+        b,
+        c,
+        a ^ b ^ c,
+        times(a, V) ^ times(b, W) ^ c,
+        times(a, W) ^ times(b, V) ^ c,
+    ]
 }
 
 /// Document 01's table of columns has one column for every choice, so the search meets exactly one.
 fn column_with(wanted_parity: u32, character: u32, top_bit: u32) -> u32 {
     (0..16)
-        .find(|&column| parity(column) == wanted_parity && projection(column) == character && top(column) == top_bit)
+        .find(|&column| {
+            parity(column) == wanted_parity
+                && projection(column) == character
+                && top(column) == top_bit
+        })
         .expect("a column for every parity, character and top bit")
 }
 
 /// The top bits of columns 1 to 6; the message holds five, and the sixth makes the row's parity p.
 fn top_row(message: u32, p: u32) -> [u32; COLUMNS] {
     let five = message & 31;
-    [five >> 4 & 1, five >> 3 & 1, five >> 2 & 1, five >> 1 & 1, five & 1, parity(five) ^ p]
+    [
+        five >> 4 & 1,
+        five >> 3 & 1,
+        five >> 2 & 1,
+        five >> 1 & 1,
+        five & 1,
+        parity(five) ^ p,
+    ]
 }
 
 fn codeword_of(message: u32) -> u32 {
     let p = message >> 11 & 1;
     let characters = hexacodeword(message >> 9 & 3, message >> 7 & 3, message >> 5 & 3);
     let tops = top_row(message, p);
-    (0..COLUMNS).fold(0, |word, i| word << 4 | column_with(p, characters[i], tops[i]))
+    (0..COLUMNS).fold(0, |word, i| {
+        word << 4 | column_with(p, characters[i], tops[i])
+    })
 }
 
 pub fn top_row_parity(word: u32) -> u32 {
-    columns(word).iter().fold(0, |sum, &column| sum ^ top(column))
+    columns(word)
+        .iter()
+        .fold(0, |sum, &column| sum ^ top(column))
 }
 
 pub fn syndrome_of(word: u32) -> u32 {
@@ -95,7 +122,11 @@ pub fn syndrome_of(word: u32) -> u32 {
     }
     syndrome = syndrome << 1 | (top_row_parity(word) ^ first);
     // The last six bits: what columns 4 to 6 project to, plus what columns 1 to 3 demand there.
-    let demanded = hexacodeword(projection(columns[0]), projection(columns[1]), projection(columns[2]));
+    let demanded = hexacodeword(
+        projection(columns[0]),
+        projection(columns[1]),
+        projection(columns[2]),
+    );
     for i in 3..COLUMNS {
         syndrome = syndrome << 2 | (projection(columns[i]) ^ demanded[i]);
     }

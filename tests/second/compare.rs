@@ -19,13 +19,19 @@ pub fn text_of(file: &str) -> Result<String, String> {
 }
 
 /// Writes the report; true where all agree and there was something to agree on.
-pub fn compare(code: &Code, cases_file: &str, answers_file: &str, out: &mut dyn Write) -> Result<bool, String> {
+pub fn compare(
+    code: &Code,
+    cases_file: &str,
+    answers_file: &str,
+    out: &mut dyn Write,
+) -> Result<bool, String> {
     let cases = cases_of(cases_file, &text_of(cases_file)?)?;
     let answers_text = text_of(answers_file)?;
     let answers = lines_of(&answers_text);
     let report = |reason: io::Error| format!("standard output: {reason}");
     let mut tally = Tally::default();
-    // An answer without a case is counted as failed too: the numbers must not look clean where the lengths differ.
+    // An answer without a case is counted as failed too: the numbers must not look clean where the
+    // lengths differ.
     for i in 0..cases.len().max(answers.len()) {
         let expected = cases.get(i).map(|case| case.answer_line(code));
         let got = answers.get(i).copied();
@@ -36,7 +42,12 @@ pub fn compare(code: &Code, cases_file: &str, answers_file: &str, out: &mut dyn 
         tally.failed += 1;
         if tally.failed <= SHOWN {
             let case = cases.get(i).map(|case| case.to_string());
-            write!(out, "{}", disagreement(i + 1, case.as_deref(), expected.as_deref(), got)).map_err(report)?;
+            write!(
+                out,
+                "{}",
+                disagreement(i + 1, case.as_deref(), expected.as_deref(), got)
+            )
+            .map_err(report)?;
         }
     }
     if cases.len() != answers.len() {
@@ -46,7 +57,12 @@ pub fn compare(code: &Code, cases_file: &str, answers_file: &str, out: &mut dyn 
     Ok(tally.failed == 0 && tally.passed > 0)
 }
 
-fn disagreement(line: usize, case: Option<&str>, expected: Option<&str>, got: Option<&str>) -> String {
+fn disagreement(
+    line: usize,
+    case: Option<&str>,
+    expected: Option<&str>,
+    got: Option<&str>,
+) -> String {
     let case = case.unwrap_or("(no case)");
     let expected = expected.unwrap_or("(no answer)");
     let got = got.unwrap_or("(no answer)");

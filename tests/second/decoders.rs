@@ -1,4 +1,4 @@
-//! Every call of document 01, decided by trying all codewords: the complete answer, or the number of the refusal.
+//! Every call of document 01, decided by trying all codewords: the complete answer, or the refusal.
 
 use crate::code::{bit_at, distance, syndrome_of, Code, MESSAGES, POSITIONS, WORDS};
 
@@ -44,11 +44,19 @@ pub struct TwoBest {
 }
 
 fn word_in_range(word: u32) -> Result<u32, Refusal> {
-    if word < WORDS { Ok(word) } else { Err(Refusal::WordAbove) }
+    if word < WORDS {
+        Ok(word)
+    } else {
+        Err(Refusal::WordAbove)
+    }
 }
 
 fn length_is(length: usize, wanted: usize) -> Result<(), Refusal> {
-    if length == wanted { Ok(()) } else { Err(Refusal::Length) }
+    if length == wanted {
+        Ok(())
+    } else {
+        Err(Refusal::Length)
+    }
 }
 
 fn checked(confidences: &[i32]) -> Result<Reading, Refusal> {
@@ -64,22 +72,36 @@ fn checked(confidences: &[i32]) -> Result<Reading, Refusal> {
 }
 
 fn correlation(codeword: u32, reading: &Reading) -> i64 {
-    let signed = |(place, &confidence): (usize, &i64)| if bit_at(codeword, place) { -confidence } else { confidence };
+    let signed = |(place, &confidence): (usize, &i64)| {
+        if bit_at(codeword, place) {
+            -confidence
+        } else {
+            confidence
+        }
+    };
     reading.iter().enumerate().map(signed).sum()
 }
 
 /// The place of the largest number, leaving one place out of the search.
 fn place_of_largest(numbers: &[i64], left_out: Option<usize>) -> usize {
-    (0..numbers.len()).filter(|&i| Some(i) != left_out).max_by_key(|&i| numbers[i]).expect("a number to choose")
+    (0..numbers.len())
+        .filter(|&i| Some(i) != left_out)
+        .max_by_key(|&i| numbers[i])
+        .expect("a number to choose")
 }
 
 /// Bit 1 exactly where the confidence is negative.
 fn word_of_signs(reading: &Reading) -> u32 {
-    reading.iter().fold(0, |word, &confidence| word << 1 | u32::from(confidence < 0))
+    reading
+        .iter()
+        .fold(0, |word, &confidence| word << 1 | u32::from(confidence < 0))
 }
 
 fn cost_of_differing(word: u32, candidate: u32, reading: &Reading) -> i64 {
-    (0..POSITIONS).filter(|&place| bit_at(word ^ candidate, place)).map(|place| reading[place].abs()).sum()
+    (0..POSITIONS)
+        .filter(|&place| bit_at(word ^ candidate, place))
+        .map(|place| reading[place].abs())
+        .sum()
 }
 
 pub fn syndrome(word: u32) -> Result<u32, Refusal> {
@@ -88,13 +110,19 @@ pub fn syndrome(word: u32) -> Result<u32, Refusal> {
 
 impl Code {
     pub fn encode(&self, message: u32) -> Result<u32, Refusal> {
-        if message < MESSAGES { Ok(self.codewords[message as usize]) } else { Err(Refusal::MessageAbove) }
+        if message < MESSAGES {
+            Ok(self.codewords[message as usize])
+        } else {
+            Err(Refusal::MessageAbove)
+        }
     }
 
     pub fn read(&self, word: u32) -> Result<u32, Refusal> {
         word_in_range(word)?;
         let place = self.codewords.iter().position(|&codeword| codeword == word);
-        place.map(|message| message as u32).ok_or(Refusal::NotACodeword)
+        place
+            .map(|message| message as u32)
+            .ok_or(Refusal::NotACodeword)
     }
 
     pub fn write_bytes(&self, word: u32, bytes: &mut [u8]) -> Result<(), Refusal> {
@@ -106,16 +134,27 @@ impl Code {
 
     pub fn read_bytes(&self, bytes: &[u8]) -> Result<u32, Refusal> {
         length_is(bytes.len(), WORD_BYTES)?;
-        let word = bytes.iter().fold(0, |word, &byte| word << 8 | u32::from(byte));
+        let word = bytes
+            .iter()
+            .fold(0, |word, &byte| word << 8 | u32::from(byte));
         self.read(word)?;
         Ok(word)
     }
 
-    /// The distance of a word from the code, and every codeword at that distance in ascending order.
+    /// The distance of a word from the code, and every codeword at that distance, ascending.
     pub fn nearest(&self, word: u32) -> (u32, Vec<u32>) {
-        let least = self.codewords.iter().map(|&codeword| distance(word, codeword)).min().expect("a codeword");
-        let mut found: Vec<u32> =
-            self.codewords.iter().copied().filter(|&codeword| distance(word, codeword) == least).collect();
+        let least = self
+            .codewords
+            .iter()
+            .map(|&codeword| distance(word, codeword))
+            .min()
+            .expect("a codeword");
+        let mut found: Vec<u32> = self
+            .codewords
+            .iter()
+            .copied()
+            .filter(|&codeword| distance(word, codeword) == least)
+            .collect();
         found.sort_unstable();
         (least, found)
     }
@@ -123,7 +162,11 @@ impl Code {
     pub fn correct(&self, word: u32) -> Result<(u32, u32), Refusal> {
         word_in_range(word)?;
         let (distance, found) = self.nearest(word);
-        if distance == 4 { Err(Refusal::DistanceFour) } else { Ok((found[0], distance)) }
+        if distance == 4 {
+            Err(Refusal::DistanceFour)
+        } else {
+            Ok((found[0], distance))
+        }
     }
 
     pub fn candidates(&self, word: u32, slots: &mut [u32]) -> Result<(), Refusal> {
@@ -137,7 +180,8 @@ impl Code {
         Ok(())
     }
 
-    /// The largest correlation of the class by its definition; the columns' way of reaching it isn't taken here.
+    /// The largest correlation of the class by its definition; the way through the columns is left
+    /// to the proved code.
     pub fn class_figure(&self, class: u32, confidences: &[i32]) -> Result<i64, Refusal> {
         let reading = checked(confidences)?;
         if class >= CLASSES {
@@ -145,15 +189,28 @@ impl Code {
         }
         let first = class as usize * CLASS_SIZE;
         let members = &self.codewords[first..first + CLASS_SIZE];
-        Ok(members.iter().map(|&codeword| correlation(codeword, &reading)).max().expect("a codeword in the class"))
+        Ok(members
+            .iter()
+            .map(|&codeword| correlation(codeword, &reading))
+            .max()
+            .expect("a codeword in the class"))
     }
 
     pub fn two_best(&self, confidences: &[i32]) -> Result<TwoBest, Refusal> {
         let reading = checked(confidences)?;
-        let all: Vec<i64> = self.codewords.iter().map(|&codeword| correlation(codeword, &reading)).collect();
+        let all: Vec<i64> = self
+            .codewords
+            .iter()
+            .map(|&codeword| correlation(codeword, &reading))
+            .collect();
         let winner = place_of_largest(&all, None);
         let runner_up = place_of_largest(&all, Some(winner));
-        Ok(TwoBest { winner, largest: all[winner], runner_up, second: all[runner_up] })
+        Ok(TwoBest {
+            winner,
+            largest: all[winner],
+            runner_up,
+            second: all[runner_up],
+        })
     }
 
     pub fn soft(&self, confidences: &[i32]) -> Result<SoftAnswer, Refusal> {
@@ -174,12 +231,18 @@ impl Code {
         let word = word_of_signs(&reading);
         // At distance 0 to 3 the list has one codeword, so the smallest cost is that codeword's.
         let (_, found) = self.nearest(word);
-        let costs: Vec<i64> = found.iter().map(|&candidate| cost_of_differing(word, candidate, &reading)).collect();
+        let costs: Vec<i64> = found
+            .iter()
+            .map(|&candidate| cost_of_differing(word, candidate, &reading))
+            .collect();
         let smallest = *costs.iter().min().expect("a nearest codeword");
         if costs.iter().filter(|&&cost| cost == smallest).count() > 1 {
             return Err(Refusal::Tied);
         }
-        let place = costs.iter().position(|&cost| cost == smallest).expect("the smallest cost");
+        let place = costs
+            .iter()
+            .position(|&cost| cost == smallest)
+            .expect("the smallest cost");
         Ok(found[place])
     }
 }

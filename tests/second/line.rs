@@ -1,4 +1,4 @@
-//! The line format of cases and answers: reading a case line, writing it back, and writing the answer line of a case.
+//! The line format: reading a case line, writing it back, and writing the answer line of a case.
 
 use crate::code::Code;
 use crate::decoders::{self, Refusal};
@@ -35,7 +35,9 @@ impl Display for Case {
             Case::ReadBytes(bytes) => write!(f, "read_bytes{}", spaced(bytes)),
             Case::Correct(word) => write!(f, "correct {word}"),
             Case::Candidates(word, slots) => write!(f, "candidates {word}{}", spaced(slots)),
-            Case::ClassFigure(class, reading) => write!(f, "class_figure {class}{}", spaced(reading)),
+            Case::ClassFigure(class, reading) => {
+                write!(f, "class_figure {class}{}", spaced(reading))
+            }
             Case::Soft(reading) => write!(f, "soft{}", spaced(reading)),
             Case::Quick(reading) => write!(f, "quick{}", spaced(reading)),
         }
@@ -80,11 +82,12 @@ impl Case {
             "read_bytes" => Ok(Case::ReadBytes(numbers(texts)?)),
             "soft" => Ok(Case::Soft(numbers(texts)?)),
             "quick" => Ok(Case::Quick(numbers(texts)?)),
-            "write_bytes" => first_and_rest(texts).and_then(|(word, rest)| Ok(Case::WriteBytes(word, numbers(rest)?))),
-            "candidates" => first_and_rest(texts).and_then(|(word, rest)| Ok(Case::Candidates(word, numbers(rest)?))),
-            "class_figure" => {
-                first_and_rest(texts).and_then(|(class, rest)| Ok(Case::ClassFigure(class, numbers(rest)?)))
-            }
+            "write_bytes" => first_and_rest(texts)
+                .and_then(|(word, rest)| Ok(Case::WriteBytes(word, numbers(rest)?))),
+            "candidates" => first_and_rest(texts)
+                .and_then(|(word, rest)| Ok(Case::Candidates(word, numbers(rest)?))),
+            "class_figure" => first_and_rest(texts)
+                .and_then(|(class, rest)| Ok(Case::ClassFigure(class, numbers(rest)?))),
             _ => Err(format!("'{call}' is no call")),
         }
     }
@@ -95,10 +98,16 @@ impl Case {
             Case::Read(word) => line_of(code.read(*word)),
             Case::Syndrome(word) => line_of(decoders::syndrome(*word)),
             Case::ReadBytes(bytes) => line_of(code.read_bytes(bytes)),
-            Case::Correct(word) => line_of(code.correct(*word).map(|(codeword, distance)| format!("{codeword} {distance}"))),
+            Case::Correct(word) => line_of(
+                code.correct(*word)
+                    .map(|(codeword, distance)| format!("{codeword} {distance}")),
+            ),
             Case::ClassFigure(class, reading) => line_of(code.class_figure(*class, reading)),
             Case::Soft(reading) => line_of(code.soft(reading).map(|answer| {
-                format!("{} {} {} {}", answer.message, answer.codeword, answer.correlation, answer.reserve)
+                format!(
+                    "{} {} {} {}",
+                    answer.message, answer.codeword, answer.correlation, answer.reserve
+                )
             })),
             Case::Quick(reading) => line_of(code.quick(reading)),
             Case::WriteBytes(word, bytes) => {
@@ -133,7 +142,10 @@ pub fn lines_of(text: &str) -> Vec<&str> {
     if text.is_empty() {
         return Vec::new();
     }
-    text.strip_suffix('\n').unwrap_or(text).split('\n').collect()
+    text.strip_suffix('\n')
+        .unwrap_or(text)
+        .split('\n')
+        .collect()
 }
 
 /// All cases of a text; the name says in the error where the text came from.

@@ -1,6 +1,8 @@
-//! The second program: decides by brute force, from document 01 alone, what every call must answer. Its commands are here.
+//! The second program's commands. It decides by brute force, from document 01 alone, what every call
+//! must answer.
 //!
-//! It shares no table and no trick with the proved code, so that a slip of the one can't be a slip of the other.
+//! It shares no table and no trick with the proved code, so that a slip of the one can't be a slip of
+//! the other.
 
 mod capture;
 mod cases;
@@ -21,7 +23,8 @@ use std::io::{self, BufWriter, Read, Write};
 use std::process::exit;
 use std::time::{SystemTime, UNIX_EPOCH};
 
-const USAGE: &str = "usage: second cases KIND SEED        prints the cases of a kind that a seed gives
+const USAGE: &str =
+    "usage: second cases KIND SEED        prints the cases of a kind that a seed gives
        second fixed KIND             prints the fixed cases of a kind
        second answers                reads cases, prints an answer line each
        second compare CASES ANSWERS  compares a file of answers with its own
@@ -42,11 +45,16 @@ impl From<String> for Failure {
 }
 
 fn main() {
-    let arguments: Vec<String> = std::env::args_os().skip(1).map(|word| word.to_string_lossy().into_owned()).collect();
+    let arguments: Vec<String> = std::env::args_os()
+        .skip(1)
+        .map(|word| word.to_string_lossy().into_owned())
+        .collect();
     let words: Vec<&str> = arguments.iter().map(String::as_str).collect();
     let mut out = BufWriter::new(io::stdout());
     let done = run(&words, &mut out);
-    let flushed = out.flush().map_err(|reason| Failure::Reason(format!("standard output: {reason}")));
+    let flushed = out
+        .flush()
+        .map_err(|reason| Failure::Reason(format!("standard output: {reason}")));
     match done.and(flushed) {
         Ok(()) => (),
         Err(Failure::Usage) => fail(USAGE, 2),
@@ -65,10 +73,16 @@ fn run(words: &[&str], out: &mut dyn Write) -> Result<(), Failure> {
     match words {
         ["cases", kind, seed] => {
             let seed: u64 = seed.parse().map_err(|_| Failure::Usage)?;
-            print_all(&kind_named(kind)?.seeded(&code, seed)?, out, Case::to_string)
+            print_all(
+                &kind_named(kind)?.seeded(&code, seed)?,
+                out,
+                Case::to_string,
+            )
         }
         ["fixed", kind] => print_all(&kind_named(kind)?.fixed(&code)?, out, Case::to_string),
-        ["answers"] => print_all(&cases_of_standard_input()?, out, |case| case.answer_line(&code)),
+        ["answers"] => print_all(&cases_of_standard_input()?, out, |case| {
+            case.answer_line(&code)
+        }),
         ["compare", cases, answers] => match compare::compare(&code, cases, answers, out)? {
             true => Ok(()),
             false => Err(Failure::Disagreement),
@@ -88,19 +102,30 @@ fn kind_named(name: &str) -> Result<Kind, Failure> {
 
 fn cases_of_standard_input() -> Result<Vec<Case>, String> {
     let mut text = String::new();
-    io::stdin().read_to_string(&mut text).map_err(|reason| format!("standard input: {reason}"))?;
+    io::stdin()
+        .read_to_string(&mut text)
+        .map_err(|reason| format!("standard input: {reason}"))?;
     line::cases_of("standard input", &text)
 }
 
 fn print_text(text: &str, out: &mut dyn Write) -> Result<(), Failure> {
-    out.write_all(text.as_bytes()).map_err(|reason| Failure::Reason(format!("standard output: {reason}")))
+    out.write_all(text.as_bytes())
+        .map_err(|reason| Failure::Reason(format!("standard output: {reason}")))
 }
 
-fn print_all(cases: &[Case], out: &mut dyn Write, line: impl Fn(&Case) -> String) -> Result<(), Failure> {
-    cases.iter().try_for_each(|case| print_text(&(line(case) + "\n"), out))
+fn print_all(
+    cases: &[Case],
+    out: &mut dyn Write,
+    line: impl Fn(&Case) -> String,
+) -> Result<(), Failure> {
+    cases
+        .iter()
+        .try_for_each(|case| print_text(&(line(case) + "\n"), out))
 }
 
 fn fresh_seed() -> Result<u64, String> {
-    let since = SystemTime::now().duration_since(UNIX_EPOCH).map_err(|reason| format!("system clock: {reason}"))?;
+    let since = SystemTime::now()
+        .duration_since(UNIX_EPOCH)
+        .map_err(|reason| format!("system clock: {reason}"))?;
     Ok(since.as_nanos() as u64)
 }

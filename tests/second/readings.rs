@@ -25,12 +25,15 @@ pub const QUICK_KINDS: [Kind; 3] = [four_wrong, four_wrong_of_one_size, four_wro
 
 /// The reading that speaks for a word with the given sizes; a size below zero speaks against it.
 fn speaking_for(word: u32, sizes: &[i64]) -> Vec<i32> {
-    let signed = |(place, &size): (usize, &i64)| (if bit_at(word, place) { -size } else { size }) as i32;
+    let signed =
+        |(place, &size): (usize, &i64)| (if bit_at(word, place) { -size } else { size }) as i32;
     sizes.iter().enumerate().map(signed).collect()
 }
 
 fn sizes(chance: &mut Chance, least: i64, most: i64) -> Vec<i64> {
-    (0..POSITIONS).map(|_| chance.between(least, most)).collect()
+    (0..POSITIONS)
+        .map(|_| chance.between(least, most))
+        .collect()
 }
 
 fn codeword(chance: &mut Chance, code: &Code) -> u32 {
@@ -39,7 +42,9 @@ fn codeword(chance: &mut Chance, code: &Code) -> u32 {
 
 /// A word with the given number of its positions changed.
 pub fn damaged(chance: &mut Chance, word: u32, errors: usize) -> u32 {
-    chance.order(POSITIONS)[..errors].iter().fold(word, |word, place| word ^ 1 << place)
+    chance.order(POSITIONS)[..errors]
+        .iter()
+        .fold(word, |word, place| word ^ 1 << place)
 }
 
 fn signal(chance: &mut Chance, code: &Code) -> Vec<i32> {
@@ -66,7 +71,9 @@ fn full_range(chance: &mut Chance, _: &Code) -> Vec<i32> {
 }
 
 fn extremes(chance: &mut Chance, _: &Code) -> Vec<i32> {
-    (0..POSITIONS).map(|_| chance.pick(&[-MOST, 0, MOST]) as i32).collect()
+    (0..POSITIONS)
+        .map(|_| chance.pick(&[-MOST, 0, MOST]) as i32)
+        .collect()
 }
 
 /// Sums that leave 32 bits, and differences so small that rounding would lose them.
@@ -77,7 +84,8 @@ fn near_extremes(chance: &mut Chance, code: &Code) -> Vec<i32> {
     speaking_for(damaged(chance, word, errors), &sizes)
 }
 
-/// The runner-up sits in the winner's own class: turning both weak columns over keeps parity and characters.
+/// The runner-up sits in the winner's own class: turning both weak columns over keeps parity and
+/// characters.
 fn two_weak_columns(chance: &mut Chance, code: &Code) -> Vec<i32> {
     let mut sizes = sizes(chance, 50, 100);
     for column in &chance.order(COLUMNS)[..2] {
@@ -102,7 +110,7 @@ fn cancelled_column(chance: &mut Chance, code: &Code) -> Vec<i32> {
     speaking_for(codeword(chance, code), &sizes)
 }
 
-/// Signs close to a codeword that the loud confidences outvote: the quick answer isn't the soft one.
+/// Signs close to a codeword that loud confidences outvote: the quick answer isn't the soft one.
 fn loud_wrong(chance: &mut Chance, code: &Code) -> Vec<i32> {
     let mut sizes = sizes(chance, 1, 3);
     let errors = 1 + chance.below(3) as usize;

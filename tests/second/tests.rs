@@ -1,11 +1,14 @@
-//! Tests of the second program itself: document 01's cases and sentences, the line format, comparing, captures.
+//! Tests of the second program itself: document 01's cases and sentences, line format, comparing.
 //!
-//! Run by `rustc -O --test --edition 2021 -o target/second-tests tests/second/main.rs && target/second-tests`.
+//! Built by `rustc -O --test --edition 2021 -o target/second-tests tests/second/main.rs`.
 
 use crate::capture;
 use crate::cases::{patterns, Kind};
 use crate::chance::Chance;
-use crate::code::{columns, distance, hexacodeword, parity, projection, syndrome_of, top, top_row_parity, Code, WORDS};
+use crate::code::{
+    columns, distance, hexacodeword, parity, projection, syndrome_of, top, top_row_parity, Code,
+    WORDS,
+};
 use crate::compare::compare;
 use crate::line::{cases_of, Case};
 use crate::readings::KINDS;
@@ -21,7 +24,9 @@ fn answer(line: &str) -> String {
 
 /// A reading as the end of a case line, given as runs of a confidence: (how many, which).
 fn runs(runs: &[(usize, i64)]) -> String {
-    runs.iter().map(|&(many, confidence)| format!(" {confidence}").repeat(many)).collect()
+    runs.iter()
+        .map(|&(many, confidence)| format!(" {confidence}").repeat(many))
+        .collect()
 }
 
 #[test]
@@ -36,15 +41,29 @@ fn messages_of_the_document_encode_and_read_back() {
         (0x01F, 0xFFFFFF),
     ];
     for (message, codeword) in pairs {
-        assert_eq!(answer(&format!("encode {message}")), format!("answered {codeword}"));
-        assert_eq!(answer(&format!("read {codeword}")), format!("answered {message}"));
+        assert_eq!(
+            answer(&format!("encode {message}")),
+            format!("answered {codeword}")
+        );
+        assert_eq!(
+            answer(&format!("read {codeword}")),
+            format!("answered {message}")
+        );
     }
 }
 
 #[test]
 fn syndromes_of_the_document() {
-    for (word, syndrome) in [(0x800000, 0xF80), (0x400000, 0xFDE), (0x000008, 0x0C0), (0x000001, 0x083)] {
-        assert_eq!(answer(&format!("syndrome {word}")), format!("answered {syndrome}"));
+    for (word, syndrome) in [
+        (0x800000, 0xF80),
+        (0x400000, 0xFDE),
+        (0x000008, 0x0C0),
+        (0x000001, 0x083),
+    ] {
+        assert_eq!(
+            answer(&format!("syndrome {word}")),
+            format!("answered {syndrome}")
+        );
     }
 }
 
@@ -59,10 +78,23 @@ fn ranges_of_the_document() {
 
 #[test]
 fn hard_cases_of_the_document() {
-    assert_eq!(answer(&format!("correct {}", 0x777770)), format!("answered {} 1", 0x777778));
+    assert_eq!(
+        answer(&format!("correct {}", 0x777770)),
+        format!("answered {} 1", 0x777778)
+    );
     assert_eq!(answer(&format!("correct {}", 0xF00000)), "refused 7");
-    let six = runs(&[(1, 0), (1, 0xF0000F), (1, 0xF000F0), (1, 0xF00F00), (1, 0xF0F000), (1, 0xFF0000)]);
-    assert_eq!(answer(&format!("candidates {} 9 9 9 9 9 9", 0xF00000)), format!("answered |{six}"));
+    let six = runs(&[
+        (1, 0),
+        (1, 0xF0000F),
+        (1, 0xF000F0),
+        (1, 0xF00F00),
+        (1, 0xF0F000),
+        (1, 0xFF0000),
+    ]);
+    assert_eq!(
+        answer(&format!("candidates {} 9 9 9 9 9 9", 0xF00000)),
+        format!("answered |{six}")
+    );
 }
 
 #[test]
@@ -72,8 +104,16 @@ fn readings_of_the_document() {
         (runs(&[(1, -1), (23, 1)]), "answered 0 0 22 6", "answered 0"),
         (runs(&[(24, 0)]), "refused 6", "answered 0"),
         (runs(&[(1, -100), (23, 1)]), "refused 6", "answered 0"),
-        (runs(&[(4, -100), (16, 2), (4, 1)]), "answered 16 15728655 428 4", "answered 15728655"),
-        (runs(&[(24, 2_147_483_647)]), "answered 0 0 51539607528 17179869176", "answered 0"),
+        (
+            runs(&[(4, -100), (16, 2), (4, 1)]),
+            "answered 16 15728655 428 4",
+            "answered 15728655",
+        ),
+        (
+            runs(&[(24, 2_147_483_647)]),
+            "answered 0 0 51539607528 17179869176",
+            "answered 0",
+        ),
     ];
     for (reading, soft, quick) in cases {
         assert_eq!(answer(&format!("soft{reading}")), soft);
@@ -81,37 +121,59 @@ fn readings_of_the_document() {
     }
 }
 
-/// Document 01 counts 253 words at 109; the class figures see only the largest, so they are counted one by one.
+/// Document 01 counts 253 words at 109; the refusal alone would hide a wrong count.
 #[test]
 fn words_tied_in_the_document() {
     let code = code();
     let correlation = |codeword: &u32| {
         let signed = |place: u32| {
             let confidence = if place == 23 { -100 } else { 1 };
-            if codeword >> place & 1 == 1 { -confidence } else { confidence }
+            if codeword >> place & 1 == 1 {
+                -confidence
+            } else {
+                confidence
+            }
         };
         (0..24).map(signed).sum::<i64>()
     };
     let all: Vec<i64> = code.codewords.iter().map(correlation).collect();
     assert_eq!(all.iter().max(), Some(&109));
-    assert_eq!(all.iter().filter(|&&correlation| correlation == 109).count(), 253);
+    assert_eq!(
+        all.iter()
+            .filter(|&&correlation| correlation == 109)
+            .count(),
+        253
+    );
 }
 
 #[test]
 fn earlier_refusals_come_first() {
     let lowest = -2_147_483_648;
-    let (short, lawful, forbidden) = (runs(&[(23, lowest)]), runs(&[(24, 0)]), runs(&[(23, 0), (1, lowest)]));
+    let (short, lawful, forbidden) = (
+        runs(&[(23, lowest)]),
+        runs(&[(24, 0)]),
+        runs(&[(23, 0), (1, lowest)]),
+    );
     let cases = [
         (format!("write_bytes {} 7 7", WORDS), "refused 1 | 7 7"),
         (format!("write_bytes {} 7 7 7", WORDS), "refused 4 | 7 7 7"),
         ("write_bytes 1 7 7 7".to_string(), "refused 5 | 7 7 7"),
         ("write_bytes 1".to_string(), "refused 1 |"),
-        (format!("write_bytes {} 7 7 7", 0x777778), "answered | 119 119 120"),
+        (
+            format!("write_bytes {} 7 7 7", 0x777778),
+            "answered | 119 119 120",
+        ),
         ("read_bytes 0 0".to_string(), "refused 1"),
         ("read_bytes 0 0 1".to_string(), "refused 5"),
         (format!("candidates {} 7", WORDS), "refused 1 | 7"),
-        (format!("candidates {} 1 2 3 4 5 6", WORDS), "refused 4 | 1 2 3 4 5 6"),
-        ("candidates 1 1 2 3 4 5 6".to_string(), "refused 8 | 1 2 3 4 5 6"),
+        (
+            format!("candidates {} 1 2 3 4 5 6", WORDS),
+            "refused 4 | 1 2 3 4 5 6",
+        ),
+        (
+            "candidates 1 1 2 3 4 5 6".to_string(),
+            "refused 8 | 1 2 3 4 5 6",
+        ),
         (format!("class_figure 128{short}"), "refused 1"),
         (format!("class_figure 128{forbidden}"), "refused 2"),
         (format!("class_figure 128{lawful}"), "refused 11"),
@@ -139,7 +201,10 @@ fn columns_of_the_document() {
         for &column in even.iter().chain(odd) {
             assert_eq!(projection(column), character as u32);
         }
-        assert!(even.iter().all(|&column| parity(column) == 0) && odd.iter().all(|&column| parity(column) == 1));
+        assert!(
+            even.iter().all(|&column| parity(column) == 0)
+                && odd.iter().all(|&column| parity(column) == 1)
+        );
         assert!(top(even[0]) != top(even[1]) && top(odd[0]) != top(odd[1]));
     }
 }
@@ -149,7 +214,9 @@ fn is_codeword(word: u32) -> bool {
     let columns = columns(word);
     let p = parity(columns[0]);
     let x = columns.map(projection);
-    columns.iter().all(|&column| parity(column) == p) && top_row_parity(word) == p && hexacodeword(x[0], x[1], x[2]) == x
+    columns.iter().all(|&column| parity(column) == p)
+        && top_row_parity(word) == p
+        && hexacodeword(x[0], x[1], x[2]) == x
 }
 
 #[test]
@@ -166,7 +233,9 @@ fn encodings_are_the_codewords_and_have_syndrome_zero() {
 fn codewords_differ_in_eight_positions() {
     let codewords = code().codewords;
     for (i, &codeword) in codewords.iter().enumerate() {
-        assert!(codewords[..i].iter().all(|&other| distance(codeword, other) >= 8));
+        assert!(codewords[..i]
+            .iter()
+            .all(|&other| distance(codeword, other) >= 8));
     }
 }
 
@@ -189,21 +258,25 @@ fn reserves_are_whole_and_in_range() {
     let code = code();
     let chance = &mut Chance::from_seed(3);
     for kind in KINDS.iter().cycle().take(900) {
-        let best = code.two_best(&kind(chance, &code)).expect("an allowed reading");
+        let best = code
+            .two_best(&kind(chance, &code))
+            .expect("an allowed reading");
         let difference = best.largest - best.second;
         assert!(difference % 2 == 0 && (0..=2 * 17_179_869_176).contains(&difference));
         assert!(best.largest.abs() <= 51_539_607_528);
     }
 }
 
-/// The largest class figure is the largest correlation, and each answer of `soft` lies in the class of its message.
+/// The largest class figure is the largest correlation, and the winner's class has it.
 #[test]
 fn class_figures_agree_with_the_soft_answer() {
     let code = code();
     let chance = &mut Chance::from_seed(4);
     for kind in KINDS.iter().cycle().take(180) {
         let reading = kind(chance, &code);
-        let figures: Vec<i64> = (0..128).map(|class| code.class_figure(class, &reading).expect("a figure")).collect();
+        let figures: Vec<i64> = (0..128)
+            .map(|class| code.class_figure(class, &reading).expect("a figure"))
+            .collect();
         let best = code.two_best(&reading).expect("an allowed reading");
         assert_eq!(figures.iter().max(), Some(&best.largest));
         assert_eq!(figures[best.winner / 32], best.largest);
@@ -223,10 +296,33 @@ fn case_lines_come_back_as_they_were() {
 #[test]
 fn malformed_lines_are_named() {
     let malformed = [
-        "", " ", "encode", "encode ", "encode 1 2", "encode  1", " encode 1", "encode 1 ", "encode -1", "encode +1",
-        "encode 01", "encode 4294967296", "encode x", "Encode 1", "decode 1", "write_bytes", "write_bytes 1 256",
-        "read_bytes -1", "candidates", "candidates 1 4294967296", "class_figure", "soft 2147483648", "soft -2147483649",
-        "soft -0", "quick 1.0", "quick 1\r", "quick 1\t2",
+        "",
+        " ",
+        "encode",
+        "encode ",
+        "encode 1 2",
+        "encode  1",
+        " encode 1",
+        "encode 1 ",
+        "encode -1",
+        "encode +1",
+        "encode 01",
+        "encode 4294967296",
+        "encode x",
+        "Encode 1",
+        "decode 1",
+        "write_bytes",
+        "write_bytes 1 256",
+        "read_bytes -1",
+        "candidates",
+        "candidates 1 4294967296",
+        "class_figure",
+        "soft 2147483648",
+        "soft -2147483649",
+        "soft -0",
+        "quick 1.0",
+        "quick 1\r",
+        "quick 1\t2",
     ];
     for line in malformed {
         assert!(Case::from_line(line).is_err(), "{line:?}");
@@ -237,34 +333,81 @@ fn malformed_lines_are_named() {
 
 /// The report of `compare` on two texts, and whether it passed.
 fn compared(name: &str, cases: &str, answers: &str) -> (bool, String) {
-    let file = |part: &str| std::env::temp_dir().join(format!("second-{}-{name}.{part}", std::process::id()));
+    let file = |part: &str| {
+        std::env::temp_dir().join(format!("second-{}-{name}.{part}", std::process::id()))
+    };
     let (cases_file, answers_file) = (file("cases"), file("answers"));
     fs::write(&cases_file, cases).expect("a file of cases");
     fs::write(&answers_file, answers).expect("a file of answers");
     let mut report = Vec::new();
-    let passed = compare(&code(), &cases_file.to_string_lossy(), &answers_file.to_string_lossy(), &mut report);
+    let passed = compare(
+        &code(),
+        &cases_file.to_string_lossy(),
+        &answers_file.to_string_lossy(),
+        &mut report,
+    );
     fs::remove_file(cases_file).expect("the file of cases");
     fs::remove_file(answers_file).expect("the file of answers");
-    (passed.expect("readable files"), String::from_utf8(report).expect("a report in UTF-8"))
+    (
+        passed.expect("readable files"),
+        String::from_utf8(report).expect("a report in UTF-8"),
+    )
 }
 
 #[test]
 fn comparing_counts_cases_and_missing_or_added_lines() {
     let cases = "encode 31\nencode 4096\nsyndrome 1\n";
     let tried = [
-        ("same", "answered 16777215\nrefused 3\nanswered 131\n", true, "3 passed, 0 failed"),
-        ("digit", "answered 16777215\nrefused 4\nanswered 131\n", false, "2 passed, 1 failed"),
-        ("missing", "answered 16777215\nrefused 3\n", false, "2 passed, 1 failed"),
-        ("added", "answered 16777215\nrefused 3\nanswered 131\nanswered 131\n", false, "3 passed, 1 failed"),
-        ("blank", "answered 16777215\nrefused 3\nanswered 131\n\n", false, "3 passed, 1 failed"),
-        ("space", "answered 16777215\nrefused 3 \nanswered 131\n", false, "2 passed, 1 failed"),
+        (
+            "same",
+            "answered 16777215\nrefused 3\nanswered 131\n",
+            true,
+            "3 passed, 0 failed",
+        ),
+        (
+            "digit",
+            "answered 16777215\nrefused 4\nanswered 131\n",
+            false,
+            "2 passed, 1 failed",
+        ),
+        (
+            "missing",
+            "answered 16777215\nrefused 3\n",
+            false,
+            "2 passed, 1 failed",
+        ),
+        (
+            "added",
+            "answered 16777215\nrefused 3\nanswered 131\nanswered 131\n",
+            false,
+            "3 passed, 1 failed",
+        ),
+        (
+            "blank",
+            "answered 16777215\nrefused 3\nanswered 131\n\n",
+            false,
+            "3 passed, 1 failed",
+        ),
+        (
+            "space",
+            "answered 16777215\nrefused 3 \nanswered 131\n",
+            false,
+            "2 passed, 1 failed",
+        ),
         ("none", "", false, "0 passed, 3 failed"),
     ];
     for (name, answers, passed, last) in tried {
         let (was, report) = compared(name, cases, answers);
-        assert_eq!((was, report.lines().last()), (passed, Some(last)), "{report}");
+        assert_eq!(
+            (was, report.lines().last()),
+            (passed, Some(last)),
+            "{report}"
+        );
     }
-    assert_eq!(compared("empty", "", ""), (false, "0 passed, 0 failed\n".to_string()));
+    assert_eq!(
+        compared("empty", "", ""),
+        (false, "0 passed, 0 failed\n".to_string())
+    );
 }
 
 fn record(confidence: i32) -> Vec<u8> {
@@ -277,7 +420,10 @@ fn record(confidence: i32) -> Vec<u8> {
 fn captures_end_and_stop_as_in_the_document() {
     let (one, zero, lowest) = (record(1), record(0), record(i32::MIN));
     let tried = [
-        ([&one[..], &zero, &[0x49]].concat(), "0 8\nrefused 6\nstopped 10 at 196\n"),
+        (
+            [&one[..], &zero, &[0x49]].concat(),
+            "0 8\nrefused 6\nstopped 10 at 196\n",
+        ),
         (vec![], ""),
         ([&lowest[..], &one].concat(), "refused 2\n0 8\n"),
         ([&one[..], &[0x43]].concat(), "0 8\nstopped 10 at 98\n"),
@@ -288,6 +434,9 @@ fn captures_end_and_stop_as_in_the_document() {
         ([&one[..], &one[..97]].concat(), "0 8\nstopped 10 at 98\n"),
     ];
     for (capture, lines) in tried {
-        assert_eq!(capture::output(&code(), &capture), format!("message reserve\n{lines}"));
+        assert_eq!(
+            capture::output(&code(), &capture),
+            format!("message reserve\n{lines}")
+        );
     }
 }

@@ -12,13 +12,9 @@ use lib.Pow.{pow-pos, split}
 use lib.Bits.{bitXor, xor-shr, xor-mod, xor-zero-r, xor-self, xor-lt, xor-shifted}
 use lib.ListN.{length, drop, getD}
 use lib.Seq.{drop-cons}
+use Rattle.binary.specs.Words.{rowSum}
 use Rattle.binary.proofs.Tests.{and-left, and-right, all}
 use Rattle.binary.proofs.Xor.{two-cases, bit-lt, xor-assoc, xor-swap, xor-back}
-
--- the exclusive or of the rows at the ones of w, lowest bit first
-abbrev pub rowSum : List ℕ → ℕ → ℕ
-rowSum [] w = 0
-rowSum (r ∷ rs) w = bitXor (w % 2 * r) (rowSum rs (w / 2))
 
 abbrev pub Additive : (ℕ → ℕ) → Type 0
 Additive f = (a b : ℕ) → f (bitXor a b) ≡ bitXor (f a) (f b)

@@ -11,9 +11,10 @@ use lib.Dec.{T, eqb, eqb→eq, lit<}
 use lib.Arith.{digits-lt}
 use lib.Pow.{pow-pos, pow-add}
 use lib.Bits.{bitXor, bitAnd, xor-shr, xor-mod, xor-lt, xor-block, xor-add-and}
+use Rattle.binary.specs.Words.{rowSum}
 use Rattle.binary.proofs.Tests.{all, below}
 use Rattle.binary.proofs.Xor.{xor-swap}
-use Rattle.binary.proofs.Linear.{rowSum, rowSum-add, rowSum-lt, short}
+use Rattle.binary.proofs.Linear.{rowSum-add, rowSum-lt, short}
 use Rattle.code.specs.Characters.{_⊗_, w, v}
 use Rattle.code.specs.Array.{bit, parity, topRow, projection}
 

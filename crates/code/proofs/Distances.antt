@@ -8,10 +8,9 @@ use Prim.Native.Nat.{ℕ, zero, suc, _≤_, _<_}
 use native.Mathlib.Nat.{le-of-suc-le-suc}
 use lib.Dec.{T, leb, leb→le}
 use lib.Bits.{bitXor, xor-lt}
-use Rattle.binary.specs.Words.{ones, distance}
+use Rattle.binary.specs.Words.{ones, distance, rowSum}
 use Rattle.binary.proofs.Tests.{all, below}
 use Rattle.binary.proofs.Xor.{xor-zero-eq}
-use Rattle.binary.proofs.Linear.{rowSum}
 use Rattle.code.specs.Code.{messages, words, isCodeword, codewordOf, messageOf, syndromeOf}
 use Rattle.code.proofs.Syndromes.{syndrome-add, codeword-zero, zero-codeword}
 use Rattle.code.proofs.Encoding.{codewordRows, codeword-rows, message-lt, codeword-message}

@@ -7,9 +7,10 @@ use mathlib.Core.List.{List, [], _∷_}
 use Prim.Native.Nat.{ℕ, _+_, _*_, _^_, _<_}
 use lib.Dec.{T, eqb, eqb→eq}
 use lib.Bits.{bitXor}
+use Rattle.binary.specs.Words.{rowSum}
 use Rattle.binary.proofs.Tests.{all, below}
 use Rattle.binary.proofs.Xor.{xor-zero-eq}
-use Rattle.binary.proofs.Linear.{Additive, additive-after, additive-sum, rowSum, rowSum-add, rowSum-lt, agree}
+use Rattle.binary.proofs.Linear.{Additive, additive-after, additive-sum, rowSum-add, rowSum-lt, agree}
 use Rattle.code.specs.Code.{messages, words, isCodeword, codewordOf, messageOf, syndromeOf}
 use Rattle.code.proofs.Columns.{Added, side-by-side, parity-read, top-read, projection-read}
 use Rattle.code.proofs.Syndromes.{syndrome-add, syndromeRows, syndrome-rows, codeword-zero, zero-codeword}

@@ -8,9 +8,10 @@ use native.Mathlib.Omega.{arith}
 use lib.Dec.{T, eqb, eqb→eq, eqb-refl}
 use lib.Bits.{bitXor}
 use lib.ListN.{replicate}
+use Rattle.binary.specs.Words.{rowSum}
 use Rattle.binary.proofs.Tests.{and-left, and-right}
 use Rattle.binary.proofs.Xor.{xor-zero-eq, eq-xor-zero}
-use Rattle.binary.proofs.Linear.{Additive, rowSum, rowSum-add, agree}
+use Rattle.binary.proofs.Linear.{Additive, rowSum-add, agree}
 use Rattle.code.specs.Characters.{fourth, fifth, sixth, hexacodeword}
 use Rattle.code.specs.Array.{column, columns, parity, topRow, projection}
 use Rattle.code.specs.Code.{words, same, isCodeword, syndromeBits, syndromeOf}
@@ -178,3 +179,15 @@ unfolding syndromeOf
 zero-codeword word h =
     let z = zero-bits _ _ _ _ _ _ _ _ _ _ _ _ _ h in
     conditions-codeword word (record { alike = z .0; top = z .1; hexacode = z .2 })
+
+T-same : (a b : Bool) → (T a → T b) → (T b → T a) → a ≡ b
+T-same true true f g = refl
+T-same true false f g = absurd (f tt)
+T-same false true f g = absurd (g tt)
+T-same false false f g = refl
+
+pub codeword-test : (word : ℕ) → isCodeword word ≡ eqb (syndromeOf word) 0
+codeword-test word =
+    T-same (isCodeword word) (eqb (syndromeOf word) 0)
+    (λ t. rw (codeword-zero word t) tt)
+    (λ t. zero-codeword word (eqb→eq (syndromeOf word) 0 t))

@@ -8,7 +8,15 @@ use crate::readings::damaged;
 
 const EXAMPLE_MESSAGES: [u32; 7] = [0x000, 0x800, 0x400, 0x200, 0x080, 0x020, 0x01F];
 const EXAMPLE_WORDS: [u32; 4] = [0x800000, 0x400000, 0x000008, 0x000001];
-const MESSAGE_BOUNDS: [u32; 7] = [0, MESSAGES - 1, MESSAGES, MESSAGES + 1, WORDS - 1, WORDS, u32::MAX];
+const MESSAGE_BOUNDS: [u32; 7] = [
+    0,
+    MESSAGES - 1,
+    MESSAGES,
+    MESSAGES + 1,
+    WORDS - 1,
+    WORDS,
+    u32::MAX,
+];
 const BUFFER_LENGTHS: [usize; 6] = [0, 1, 2, 3, 4, 5];
 
 const SEEDED_ROUNDS: usize = 1_000;
@@ -40,23 +48,46 @@ pub fn fixed(code: &Code, chance: &mut Chance) -> Vec<Case> {
 }
 
 fn examples() -> Vec<Case> {
-    let encoded = EXAMPLE_MESSAGES.iter().map(|&message| Case::Encode(message));
-    encoded.chain(EXAMPLE_WORDS.iter().map(|&word| Case::Syndrome(word))).collect()
+    let encoded = EXAMPLE_MESSAGES
+        .iter()
+        .map(|&message| Case::Encode(message));
+    encoded
+        .chain(EXAMPLE_WORDS.iter().map(|&word| Case::Syndrome(word)))
+        .collect()
 }
 
-/// Every refusal at its boundary, and buffers where several refusals apply at once: lengths, then 4, then 5.
+/// Every refusal at its boundary, and buffers where several apply at once: lengths, then 4, then 5.
 fn boundaries(code: &Code) -> Vec<Case> {
-    let mut cases: Vec<Case> = MESSAGE_BOUNDS.iter().map(|&message| Case::Encode(message)).collect();
+    let mut cases: Vec<Case> = MESSAGE_BOUNDS
+        .iter()
+        .map(|&message| Case::Encode(message))
+        .collect();
     let codeword = code.codewords[1];
     let around_codeword = [codeword, codeword ^ 1, WORDS | codeword];
     for &word in WORD_BOUNDS.iter().chain(around_codeword.iter()) {
         cases.push(Case::Syndrome(word));
         cases.push(Case::Read(word));
-        cases.extend(BUFFER_LENGTHS.iter().map(|&length| Case::WriteBytes(word, vec![7; length])));
+        cases.extend(
+            BUFFER_LENGTHS
+                .iter()
+                .map(|&length| Case::WriteBytes(word, vec![7; length])),
+        );
     }
-    cases.extend(BUFFER_LENGTHS.iter().map(|&length| Case::ReadBytes(vec![0; length])));
-    cases.extend(BUFFER_LENGTHS.iter().map(|&length| Case::ReadBytes(vec![1; length])));
-    cases.extend(BUFFER_LENGTHS.iter().map(|&length| Case::ReadBytes(vec![255; length])));
+    cases.extend(
+        BUFFER_LENGTHS
+            .iter()
+            .map(|&length| Case::ReadBytes(vec![0; length])),
+    );
+    cases.extend(
+        BUFFER_LENGTHS
+            .iter()
+            .map(|&length| Case::ReadBytes(vec![1; length])),
+    );
+    cases.extend(
+        BUFFER_LENGTHS
+            .iter()
+            .map(|&length| Case::ReadBytes(vec![255; length])),
+    );
     cases
 }
 
@@ -72,7 +103,11 @@ fn words_of_at_most_two_ones() -> Vec<u32> {
 /// One random case of each sort.
 fn round(code: &Code, chance: &mut Chance) -> Vec<Case> {
     let above = chance.between(i64::from(MESSAGES), i64::from(u32::MAX)) as u32;
-    let mut cases = vec![Case::Encode(above), Case::Syndrome(word_above(chance, code)), Case::Syndrome(any_word(chance))];
+    let mut cases = vec![
+        Case::Encode(above),
+        Case::Syndrome(word_above(chance, code)),
+        Case::Syndrome(any_word(chance)),
+    ];
     for word in words_of_a_round(code, chance) {
         cases.push(Case::Read(word));
     }
@@ -101,7 +136,11 @@ fn words_of_a_round(code: &Code, chance: &mut Chance) -> Vec<u32> {
 fn byte_readings(code: &Code, chance: &mut Chance, length: usize) -> Vec<Case> {
     let codeword = any_codeword(chance, code);
     let errors = 1 + chance.below(4) as usize;
-    let words = [codeword, damaged(chance, codeword, errors), any_word(chance)];
+    let words = [
+        codeword,
+        damaged(chance, codeword, errors),
+        any_word(chance),
+    ];
     let bytes_of = |word: &u32| {
         let mut bytes = word.to_be_bytes()[1..].to_vec();
         bytes.extend(chance.bytes(length));

@@ -19,8 +19,13 @@ pub fn seeded(code: &Code, chance: &mut Chance) -> Vec<Case> {
     let mut cases = examples();
     cases.extend(boundaries(code));
     for pattern in patterns() {
-        cases.extend((0..REPRESENTATIVES).map(|_| Case::Correct(pattern ^ any_codeword(chance, code))));
-        cases.push(Case::Candidates(pattern ^ any_codeword(chance, code), slots(chance, 6)));
+        cases.extend(
+            (0..REPRESENTATIVES).map(|_| Case::Correct(pattern ^ any_codeword(chance, code))),
+        );
+        cases.push(Case::Candidates(
+            pattern ^ any_codeword(chance, code),
+            slots(chance, 6),
+        ));
     }
     cases.extend((0..SEEDED_WORDS).map(|_| Case::Correct(any_word(chance))));
     for _ in 0..SEEDED_ROUNDS {
@@ -47,19 +52,31 @@ fn examples() -> Vec<Case> {
     EXAMPLE_WORDS.iter().flat_map(asked).collect()
 }
 
-/// Every refusal at its boundary, and slots where several refusals apply at once: lengths, then 4, then 8.
+/// Every refusal at its boundary, and slots where several apply at once: lengths, then 4, then 8.
 fn boundaries(code: &Code) -> Vec<Case> {
     let far = EXAMPLE_WORDS[1];
-    let own = [code.codewords[1], code.codewords[1] ^ far, WORDS | far, 0x100, 0x110, 0x111];
+    let own = [
+        code.codewords[1],
+        code.codewords[1] ^ far,
+        WORDS | far,
+        0x100,
+        0x110,
+        0x111,
+    ];
     let mut cases = Vec::new();
     for &word in WORD_BOUNDS.iter().chain(own.iter()) {
         cases.push(Case::Correct(word));
-        cases.extend(SLOT_COUNTS.iter().map(|&count| Case::Candidates(word, vec![7; count])));
+        cases.extend(
+            SLOT_COUNTS
+                .iter()
+                .map(|&count| Case::Candidates(word, vec![7; count])),
+        );
     }
     cases
 }
 
-/// All words of at most four ones, fewest first. Added to codewords they meet every syndrome: no word lies farther.
+/// All words of at most four ones, fewest first. Added to codewords they meet every syndrome, since
+/// no word lies farther from the code.
 pub fn patterns() -> Vec<u32> {
     let mut patterns = vec![0];
     let mut first = 0;
@@ -80,7 +97,7 @@ fn slots(chance: &mut Chance, count: usize) -> Vec<u32> {
     (0..count).map(|_| chance.next() as u32).collect()
 }
 
-/// Words at each distance from a random codeword, any word, and a word above; each corrected and asked for candidates.
+/// Any word, a word above and words at each distance; each corrected and asked for candidates.
 fn round(code: &Code, chance: &mut Chance) -> Vec<Case> {
     let mut words = vec![any_word(chance), word_above(chance, code)];
     for errors in 0..=4 {
@@ -90,7 +107,11 @@ fn round(code: &Code, chance: &mut Chance) -> Vec<Case> {
     let mut cases = Vec::new();
     for word in words {
         cases.push(Case::Correct(word));
-        cases.extend(SLOT_COUNTS.iter().map(|&count| Case::Candidates(word, slots(chance, count))));
+        cases.extend(
+            SLOT_COUNTS
+                .iter()
+                .map(|&count| Case::Candidates(word, slots(chance, count))),
+        );
     }
     cases
 }

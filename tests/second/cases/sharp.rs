@@ -1,8 +1,8 @@
-//! Sharpness of the reserve: changes of a total one below it keep the word, and one change of exactly the reserve loses it.
+//! Sharpness of the reserve: changes of a total one below it keep the word, one of exactly it loses it.
 
 use crate::chance::Chance;
 use crate::code::{bit_at, Code, POSITIONS};
-use crate::decoders::TwoBest;
+use crate::decoders::{Refusal, TwoBest};
 use crate::line::Case;
 use crate::readings::{KINDS, MOST};
 
@@ -29,10 +29,16 @@ fn accepted_reading(code: &Code, chance: &mut Chance, start: usize) -> Accepted 
     let mut i = start;
     loop {
         let reading = KINDS[i % KINDS.len()](chance, code);
-        let best = code.two_best(&reading).expect("a reading of 24 allowed confidences");
+        let best = code
+            .two_best(&reading)
+            .expect("a reading of 24 allowed confidences");
         if best.largest > best.second {
             let reserve = (best.largest - best.second) / 2;
-            return Accepted { reading, best, reserve };
+            return Accepted {
+                reading,
+                best,
+                reserve,
+            };
         }
         i += 1;
     }
@@ -49,34 +55,52 @@ fn around(code: &Code, chance: &mut Chance, accepted: &Accepted) -> Result<Vec<V
     Ok(vec![scattered, aimed_below, aimed])
 }
 
-/// The changed reading must have the total it claims, lie in the range, and keep the word or lose it as wanted.
-fn check(code: &Code, accepted: &Accepted, changed: &[i32], total: i64, wanted_kept: bool) -> Result<(), String> {
-    let reading = &accepted.reading;
+/// The changed reading must have the total it claims, and keep the word or lose it as wanted.
+fn check(
+    code: &Code,
+    accepted: &Accepted,
+    changed: &[i32],
+    total: i64,
+    wanted_kept: bool,
+) -> Result<(), String> {
     let size = |(&before, &after): (&i32, &i32)| (i64::from(after) - i64::from(before)).abs();
-    let reached: i64 = reading.iter().zip(changed).map(size).sum();
-    if reached != total {
-        return Err(format!("a change of {total} was wanted and {reached} made: {reading:?} to {changed:?}"));
-    }
+    let reached: i64 = accepted.reading.iter().zip(changed).map(size).sum();
     let answer = code.soft(changed);
-    let kept = matches!(&answer, Ok(answer) if answer.message as usize == accepted.best.winner);
-    if kept != wanted_kept {
-        let wanted = if wanted_kept { "keep" } else { "lose" };
-        return Err(format!("a change of {total} must {wanted} the word: {reading:?} to {changed:?} gives {answer:?}"));
+    let as_wanted = match &answer {
+        Ok(answer) => (answer.message as usize == accepted.best.winner) == wanted_kept,
+        Err(Refusal::Tied) => !wanted_kept,
+        // Any other refusal would say that the change left the range.
+        Err(_) => false,
+    };
+    if reached == total && as_wanted {
+        return Ok(());
     }
-    Ok(())
+    let wanted = if wanted_kept { "keep" } else { "lose" };
+    Err(format!(
+        "a change of {total} must {wanted} the word; {:?} changed by {reached} to {changed:?} gives {answer:?}",
+        accepted.reading
+    ))
 }
 
 fn room(confidence: i32, upward: bool) -> i64 {
     let confidence = i64::from(confidence);
-    if upward { MOST - confidence } else { confidence + MOST }
+    if upward {
+        MOST - confidence
+    } else {
+        confidence + MOST
+    }
 }
 
-/// A random way to go, but the other way where too little room is left to reach the total over all places.
+/// A random way to go, but the other way where too little room is left to reach the total.
 fn ways(chance: &mut Chance, reading: &[i32], total: i64) -> Vec<bool> {
     let share = total / POSITIONS as i64 + 1;
     let way = |&confidence: &i32| {
         let upward = chance.one_in(2);
-        if room(confidence, upward) < share { !upward } else { upward }
+        if room(confidence, upward) < share {
+            !upward
+        } else {
+            upward
+        }
     };
     reading.iter().map(way).collect()
 }
@@ -91,7 +115,11 @@ fn scattered(chance: &mut Chance, reading: &[i32], total: i64) -> Vec<i32> {
     for &at_random in &[true, false] {
         for &place in &order {
             let most = left.min(room(changed[place], upward[place]));
-            let size = if at_random { chance.between(0, most) } else { most };
+            let size = if at_random {
+                chance.between(0, most)
+            } else {
+                most
+            };
             let signed = if upward[place] { size } else { -size };
             changed[place] = (i64::from(changed[place]) + signed) as i32;
             left -= size;
@@ -100,8 +128,8 @@ fn scattered(chance: &mut Chance, reading: &[i32], total: i64) -> Vec<i32> {
     changed
 }
 
-/// Shrinks toward zero what favours the winner where it differs from the runner-up. What favours it there,
-/// less what speaks against it, is exactly the reserve, so that much can always be shrunk.
+/// Shrinks toward zero what favours the winner where it differs from the runner-up. What favours it
+/// there, less what speaks against it, is exactly the reserve, so that much can always be shrunk.
 fn aimed(code: &Code, chance: &mut Chance, accepted: &Accepted, total: i64) -> Vec<i32> {
     let winner = code.codewords[accepted.best.winner];
     let runner_up = code.codewords[accepted.best.runner_up];

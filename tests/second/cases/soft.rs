@@ -1,6 +1,8 @@
 //! The cases of the soft decoder and of the class figures.
 
-use super::{of_length, ones, readings_of_the_document, sharp, with_confidence, zeros, WRONG_LENGTHS};
+use super::{
+    of_length, ones, readings_of_the_document, sharp, with_confidence, zeros, WRONG_LENGTHS,
+};
 use crate::chance::Chance;
 use crate::code::{Code, POSITIONS};
 use crate::decoders::{CLASSES, FORBIDDEN};
@@ -17,14 +19,32 @@ const FIXED_CLASS_READINGS: usize = 5;
 const FIXED_SHARP: usize = 40;
 
 pub fn seeded(code: &Code, chance: &mut Chance) -> Result<Vec<Case>, String> {
-    gathered(code, chance, SEEDED_READINGS, SEEDED_CLASS_READINGS, SEEDED_SHARP)
+    gathered(
+        code,
+        chance,
+        SEEDED_READINGS,
+        SEEDED_CLASS_READINGS,
+        SEEDED_SHARP,
+    )
 }
 
 pub fn fixed(code: &Code, chance: &mut Chance) -> Result<Vec<Case>, String> {
-    gathered(code, chance, FIXED_READINGS, FIXED_CLASS_READINGS, FIXED_SHARP)
+    gathered(
+        code,
+        chance,
+        FIXED_READINGS,
+        FIXED_CLASS_READINGS,
+        FIXED_SHARP,
+    )
 }
 
-fn gathered(code: &Code, chance: &mut Chance, many: usize, classed: usize, sharp: usize) -> Result<Vec<Case>, String> {
+fn gathered(
+    code: &Code,
+    chance: &mut Chance,
+    many: usize,
+    classed: usize,
+    sharp: usize,
+) -> Result<Vec<Case>, String> {
     let mut cases = examples();
     cases.extend(refused_readings(code, chance));
     cases.extend(refused_classes(code, chance));
@@ -46,7 +66,10 @@ fn reading(code: &Code, chance: &mut Chance, i: usize) -> Vec<i32> {
 
 /// Document 01's readings, and the classes at both ends of the range for each of them.
 fn examples() -> Vec<Case> {
-    let mut cases: Vec<Case> = readings_of_the_document().into_iter().map(Case::Soft).collect();
+    let mut cases: Vec<Case> = readings_of_the_document()
+        .into_iter()
+        .map(Case::Soft)
+        .collect();
     for reading in readings_of_the_document() {
         cases.push(Case::ClassFigure(0, reading.clone()));
         cases.push(Case::ClassFigure(CLASSES - 1, reading));
@@ -54,7 +77,7 @@ fn examples() -> Vec<Case> {
     cases
 }
 
-/// Wrong lengths, the forbidden confidence at each place with its neighbour beside it, and both at once.
+/// Wrong lengths, the forbidden confidence and its neighbour at each place, and both at once.
 fn refused_readings(code: &Code, chance: &mut Chance) -> Vec<Case> {
     let mut cases = Vec::new();
     for place in 0..POSITIONS {
@@ -67,24 +90,35 @@ fn refused_readings(code: &Code, chance: &mut Chance) -> Vec<Case> {
     for &length in &WRONG_LENGTHS {
         cases.push(Case::Soft(of_length(&ones(), length)));
         cases.push(Case::Soft(of_length(&zeros(), length)));
-        cases.push(Case::Soft(of_length(&reading(code, chance, length), length)));
+        cases.push(Case::Soft(of_length(
+            &reading(code, chance, length),
+            length,
+        )));
         cases.push(Case::Soft(vec![FORBIDDEN; length]));
     }
     cases
 }
 
-/// A class number above 127 alone, and together with the refusals that come before it: lengths, then 2.
+/// A class number above 127 alone, and with the refusals that come before it: lengths, then 2.
 fn refused_classes(code: &Code, chance: &mut Chance) -> Vec<Case> {
     let mut cases = Vec::new();
     let classes = [0, CLASSES - 1].iter().chain(CLASSES_ABOVE.iter());
     for (i, &class) in classes.enumerate() {
         let reading = reading(code, chance, i);
         cases.push(Case::ClassFigure(class, reading.clone()));
-        cases.push(Case::ClassFigure(class, with_confidence(&reading, 4 * i, FORBIDDEN)));
+        cases.push(Case::ClassFigure(
+            class,
+            with_confidence(&reading, 4 * i, FORBIDDEN),
+        ));
         for &length in &WRONG_LENGTHS {
             cases.push(Case::ClassFigure(class, of_length(&reading, length)));
             cases.push(Case::ClassFigure(class, vec![FORBIDDEN; length]));
         }
+    }
+    for place in 0..POSITIONS {
+        let forbidden = with_confidence(&reading(code, chance, place), place, FORBIDDEN);
+        cases.push(Case::ClassFigure(place as u32, forbidden.clone()));
+        cases.push(Case::ClassFigure(CLASSES + place as u32, forbidden));
     }
     cases
 }

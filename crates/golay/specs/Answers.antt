@@ -1,0 +1,59 @@
+-- An answer in the words of document 01, for every call: values, or the number of a refusal. Each call's own answer is read as one here.
+use mathlib.Core.Bool.{Bool, true, false}
+use Prim.Native.Nat.{ℕ}
+use Rattle.golay.specs.declared.kinds.Refusal.{Refusal}
+use Rattle.golay.specs.declared.kinds.EncodeAnswer.{EncodeAnswer}
+use Rattle.golay.specs.declared.kinds.EncodeAnswer.the-variants as encode
+use Rattle.golay.specs.declared.kinds.ReadAnswer.{ReadAnswer}
+use Rattle.golay.specs.declared.kinds.ReadAnswer.the-variants as read
+use Rattle.golay.specs.declared.kinds.SyndromeAnswer.{SyndromeAnswer}
+use Rattle.golay.specs.declared.kinds.SyndromeAnswer.the-variants as syndrome
+use Rattle.golay.specs.declared.kinds.DistanceAnswer.{DistanceAnswer}
+use Rattle.golay.specs.declared.kinds.DistanceAnswer.the-variants as distance
+use Rattle.golay.specs.declared.kinds.WriteBytesAnswer.{WriteBytesAnswer}
+use Rattle.golay.specs.declared.kinds.WriteBytesAnswer.the-variants as write
+use Rattle.golay.specs.declared.kinds.ReadBytesAnswer.{ReadBytesAnswer}
+use Rattle.golay.specs.declared.kinds.ReadBytesAnswer.the-variants as bytes
+use Rattle.golay.specs.Refusals.{number}
+
+-- "A refusal returns its number alone."
+pub data Answer (A : Type 0) : Type 0 where
+  accepted : A → Answer A
+  refused : ℕ → Answer A
+
+module _ {A : Type 0} where
+  -- where the test holds, the refusal; else what comes next. The order of the tests is the order of the document.
+  abbrev pub refuse : Refusal → Bool → Answer A → Answer A
+  refuse reason true next = refused (number reason)
+  refuse reason false next = next
+
+  -- what lent memory holds after the call: "all lent memory keeps its contents" on a refusal
+  abbrev pub lent : {M : Type 0} → Answer A → M → M → M
+  lent (accepted x) before after = after
+  lent (refused n) before after = before
+
+-- the answers of the calls: number and values for every case
+abbrev pub encodeAnswer : EncodeAnswer → Answer ℕ
+encodeAnswer (encode.Accepted codeword) = accepted (codeword .0)
+encodeAnswer (encode.Refused reason) = refused (number reason)
+
+abbrev pub readAnswer : ReadAnswer → Answer ℕ
+readAnswer (read.Accepted message) = accepted (message .0)
+readAnswer (read.Refused reason) = refused (number reason)
+
+abbrev pub syndromeAnswer : SyndromeAnswer → Answer ℕ
+syndromeAnswer (syndrome.Accepted s) = accepted (s .0)
+syndromeAnswer (syndrome.Refused reason) = refused (number reason)
+
+abbrev pub distanceAnswer : DistanceAnswer → Answer ℕ
+distanceAnswer (distance.Accepted d) = accepted d
+distanceAnswer (distance.Refused reason) = refused (number reason)
+
+-- accepted with no value: what was written shows in the buffer
+abbrev pub writeBytesAnswer : WriteBytesAnswer → Answer (Unit {0})
+writeBytesAnswer write.Accepted = accepted tt
+writeBytesAnswer (write.Refused reason) = refused (number reason)
+
+abbrev pub readBytesAnswer : ReadBytesAnswer → Answer ℕ
+readBytesAnswer (bytes.Accepted codeword) = accepted (codeword .0)
+readBytesAnswer (bytes.Refused reason) = refused (number reason)

@@ -1,0 +1,228 @@
+// Messages, codewords, syndromes and codeword bytes. Each call answers for every input, and its promise decides the whole answer.
+ghost use mathlib.Core.Path.{_≡_};
+ghost use Prim.Native.Nat.{_<_};
+ghost use lib.ListN.{length};
+ghost use Rattle.binary.specs.Words.{rowSum};
+ghost use Rattle.binary.specs.Words as words;
+ghost use Rattle.code.specs.Code.{words, isCodeword};
+ghost use Rattle.golay.specs.Answers.{encodeAnswer, readAnswer, syndromeAnswer, distanceAnswer, writeBytesAnswer, readBytesAnswer};
+ghost use Rattle.golay.specs.Bytes.{wordOf};
+ghost use Rattle.golay.specs.Calls.{encodeRule, readRule, syndromeRule, distanceRule, readBytesRule, WritesBytes};
+
+pub mod kinds;
+
+use kinds::Codeword;
+use kinds::DistanceAnswer;
+use kinds::EncodeAnswer;
+use kinds::Message;
+use kinds::ReadAnswer;
+use kinds::ReadBytesAnswer;
+use kinds::Refusal;
+use kinds::Syndrome;
+use kinds::SyndromeAnswer;
+use kinds::WriteBytesAnswer;
+
+const MESSAGES: u32 = 4_096;
+
+const WORDS: u32 = 16_777_216;
+
+// The codewords of the single-bit messages, from message 001 up to message 800.
+const CODEWORDS: [u32; 12] = [
+    0x0000FF,
+    0x000F0F,
+    0x00F00F,
+    0x0F000F,
+    0xF0000F,
+    0x003333,
+    0x005555,
+    0x030356,
+    0x050563,
+    0x300365,
+    0x500536,
+    0x777778,
+];
+
+// The syndromes of the single positions, from position 24 up to position 1.
+const SYNDROMES: [u32; 24] = [
+    0x083,
+    0x082,
+    0x081,
+    0x0C0,
+    0x10C,
+    0x108,
+    0x104,
+    0x140,
+    0x230,
+    0x220,
+    0x210,
+    0x240,
+    0x43F,
+    0x42A,
+    0x415,
+    0x440,
+    0x836,
+    0x82D,
+    0x81B,
+    0x840,
+    0xFF9,
+    0xFE7,
+    0xFDE,
+    0xF80,
+];
+
+// The message bits that a one at each position puts in, from position 24 up to position 1.
+const MESSAGE_BITS: [u32; 24] = [
+    0x000,
+    0x000,
+    0x000,
+    0x000,
+    0x000,
+    0x000,
+    0x000,
+    0x001,
+    0x000,
+    0x000,
+    0x000,
+    0x002,
+    0x060,
+    0x040,
+    0x020,
+    0x004,
+    0x180,
+    0x100,
+    0x080,
+    0x008,
+    0xE00,
+    0xC00,
+    0xA00,
+    0x810,
+];
+
+// The exclusive or of the rows at the ones of word, lowest bit first.
+fn row_sum(rows: &[u32], word: u32) -> u32
+    ensures { λ r. ⌜ r ≡ rowSum (now (rows .entry)) word ⌝ }
+{
+    let mut sum: u32 = 0;
+    let mut left = word;
+    let mut i = 0;
+    while i < rows.len() {
+        sum = sum ^ (left % 2 * rows[i]);
+        left = left / 2;
+        i += 1;
+    }
+    sum
+}
+
+fn is_codeword(word: u32) -> bool
+    requires { ⌜ word < words ⌝ }
+    ensures { λ r. ⌜ r ≡ isCodeword word ⌝ }
+{
+    row_sum(&SYNDROMES, word) == 0
+}
+
+fn wide(byte: u8) -> u32
+    ensures { λ r. ⌜ (r ≡ byte) × (r < 256) ⌝ }
+{
+    byte as u32
+}
+
+// The word that three bytes hold.
+fn word_of(bytes: &[u8]) -> u32
+    requires { ⌜ length (now bytes) ≡ 3 ⌝ }
+    ensures { λ r. ⌜ (r ≡ wordOf (now (bytes .entry))) × (r < words) ⌝ }
+{
+    wide(bytes[0]) * 65_536 + wide(bytes[1]) * 256 + wide(bytes[2])
+}
+
+// The codeword of a message, added up from the twelve. Refuses 3.
+pub fn encode(message: Message) -> EncodeAnswer
+    ensures { λ r. ⌜ encodeAnswer r ≡ encodeRule (message .0) ⌝ }
+{
+    let m = message.0;
+    if m >= MESSAGES {
+        return EncodeAnswer::Refused(Refusal::MessageAbove);
+    }
+    EncodeAnswer::Accepted(Codeword(row_sum(&CODEWORDS, m)))
+}
+
+// The message of a codeword. Refuses 4, then 5.
+pub fn read(word: u32) -> ReadAnswer
+    ensures { λ r. ⌜ readAnswer r ≡ readRule word ⌝ }
+{
+    if word >= WORDS {
+        return ReadAnswer::Refused(Refusal::WordAbove);
+    }
+    if !is_codeword(word) {
+        return ReadAnswer::Refused(Refusal::NotCodeword);
+    }
+    ReadAnswer::Accepted(Message(row_sum(&MESSAGE_BITS, word)))
+}
+
+// The syndrome of any word. Refuses 4.
+pub fn syndrome(word: u32) -> SyndromeAnswer
+    ensures { λ r. ⌜ syndromeAnswer r ≡ syndromeRule word ⌝ }
+{
+    if word >= WORDS {
+        return SyndromeAnswer::Refused(Refusal::WordAbove);
+    }
+    SyndromeAnswer::Accepted(Syndrome(row_sum(&SYNDROMES, word)))
+}
+
+// How many ones a number of 32 bits has: each turn takes the lowest one away.
+pub fn ones(number: u32) -> u32
+    ensures { λ r. ⌜ r ≡ words.ones 32 number ⌝ }
+{
+    let mut count: u32 = 0;
+    let mut left = number;
+    while left != 0 {
+        left = left & (left - 1);
+        count += 1;
+    }
+    count
+}
+
+// In how many positions two words differ. Refuses 4.
+pub fn distance(a: u32, b: u32) -> DistanceAnswer
+    ensures { λ r. ⌜ distanceAnswer r ≡ distanceRule a b ⌝ }
+{
+    if a >= WORDS {
+        return DistanceAnswer::Refused(Refusal::WordAbove);
+    }
+    if b >= WORDS {
+        return DistanceAnswer::Refused(Refusal::WordAbove);
+    }
+    DistanceAnswer::Accepted(ones(a ^ b))
+}
+
+// Writes a codeword as three bytes, the first position most significant. Refuses 1, then 4, then 5, and then no byte changes.
+pub fn write_bytes(word: u32, bytes: &mut [u8]) -> WriteBytesAnswer
+    ensures { λ r. ⌜ WritesBytes word (now (bytes .entry)) (writeBytesAnswer r) (now (bytes .exit)) ⌝ }
+{
+    if bytes.len() != 3 {
+        return WriteBytesAnswer::Refused(Refusal::WrongLength);
+    }
+    if word >= WORDS {
+        return WriteBytesAnswer::Refused(Refusal::WordAbove);
+    }
+    if !is_codeword(word) {
+        return WriteBytesAnswer::Refused(Refusal::NotCodeword);
+    }
+    bytes[0] = (word / 65_536 % 256) as u8;
+    bytes[1] = (word / 256 % 256) as u8;
+    bytes[2] = (word % 256) as u8;
+    WriteBytesAnswer::Accepted
+}
+
+// The codeword that three bytes hold. Refuses 1, then 5.
+pub fn read_bytes(bytes: &[u8]) -> ReadBytesAnswer
+    ensures { λ r. ⌜ readBytesAnswer r ≡ readBytesRule (now (bytes .entry)) ⌝ }
+{
+    if bytes.len() != 3 {
+        return ReadBytesAnswer::Refused(Refusal::WrongLength);
+    }
+    let word = word_of(bytes);
+    if !is_codeword(word) {
+        return ReadBytesAnswer::Refused(Refusal::NotCodeword);
+    }
+    ReadBytesAnswer::Accepted(Codeword(word))
+}

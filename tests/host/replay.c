@@ -1,0 +1,398 @@
+/* Replays case lines through garthumor.h: reads cases, calls the library, prints the answer lines.
+ *
+ * The line format is the second program's (tests/second/line.rs). Whatever the library gets a
+ * pointer to lies between guard bytes; where those or an output break, the answer line is
+ * `broken GUARD ...`, which no comparison passes.
+ *
+ * GARTHUMOR_HARD, GARTHUMOR_SOFT and GARTHUMOR_QUICK compile the rooms beyond the first in. */
+
+#include "garthumor.h"
+
+#include <inttypes.h>
+#include <stddef.h>
+#include <stdint.h>
+#include <stdio.h>
+#include <stdlib.h>
+#include <string.h>
+
+enum { GUARD = 64, MOST_PIECES = 8, MOST_NUMBERS = 64, LINE_BYTES = 1024 };
+
+/* What the library may do with a piece of memory. */
+enum role {
+    INPUT,  /* must never change */
+    OUTPUT, /* must keep its pattern on a refusal */
+    MEMORY  /* shown in the answer line whatever happens */
+};
+
+enum outcome { ANSWERED, REFUSED, BROKEN };
+
+struct piece {
+    const char *name;
+    enum role role;
+    size_t size;
+    unsigned char *block; /* guard, contents, guard */
+    unsigned char *before; /* the contents before the call */
+};
+
+/* A case: the message, word or class where the call has one, and the numbers after it. */
+struct given {
+    uint32_t head;
+    int64_t numbers[MOST_NUMBERS];
+    size_t count;
+};
+
+struct call {
+    const char *name;
+    int has_head;
+    size_t most_numbers;
+    int64_t least, most;
+    void (*replay)(const struct given *given); /* NULL where the room isn't compiled in */
+};
+
+static struct piece pieces[MOST_PIECES];
+static size_t piece_count;
+static unsigned long line_number;
+
+static void fail(const char *reason, const char *what)
+{
+    fflush(stdout);
+    fprintf(stderr, "replay: standard input, line %lu: %s%s\n", line_number, reason, what);
+    exit(1);
+}
+
+/* Differs from place to place, so that bytes moved within the guard are seen too. */
+static unsigned char guard_byte(size_t place)
+{
+    return (unsigned char)(0xC3u ^ (place * 37u));
+}
+
+static void *allocate(size_t size)
+{
+    void *memory = malloc(size);
+    if (memory == NULL)
+        fail("no memory left", "");
+    return memory;
+}
+
+/* Allocated afresh for each call: such memory takes the type that the library writes, and memory
+ * checkers see its ends. */
+static void *lend(enum role role, const char *name, const void *contents, size_t size)
+{
+    if (piece_count == MOST_PIECES)
+        fail("too many pieces of memory for ", name);
+    struct piece *piece = &pieces[piece_count++];
+    piece->name = name;
+    piece->role = role;
+    piece->size = size;
+    piece->block = allocate(GUARD + size + GUARD);
+    piece->before = allocate(size + 1);
+    for (size_t i = 0; i < GUARD; i++) {
+        piece->block[i] = guard_byte(i);
+        piece->block[GUARD + size + i] = guard_byte(GUARD + i);
+    }
+    memcpy(piece->before, contents, size);
+    memcpy(piece->block + GUARD, contents, size);
+    return piece->block + GUARD;
+}
+
+static void *lend_output(const char *name, size_t size)
+{
+    unsigned char pattern[sizeof(int64_t)];
+    memset(pattern, 0xA5, sizeof pattern);
+    return lend(OUTPUT, name, pattern, size);
+}
+
+static void give_back(void)
+{
+    for (size_t i = 0; i < piece_count; i++) {
+        free(pieces[i].block);
+        free(pieces[i].before);
+    }
+    piece_count = 0;
+}
+
+static int guard_holds(const unsigned char *guard, size_t first)
+{
+    for (size_t i = 0; i < GUARD; i++)
+        if (guard[i] != guard_byte(first + i))
+            return 0;
+    return 1;
+}
+
+/* What is wrong with a piece after a call, or NULL. */
+static const char *breach(const struct piece *piece, uint8_t refusal)
+{
+    if (!guard_holds(piece->block, 0))
+        return "written before its start";
+    if (!guard_holds(piece->block + GUARD + piece->size, GUARD))
+        return "written past its end";
+    if (memcmp(piece->block + GUARD, piece->before, piece->size) == 0)
+        return NULL;
+    if (piece->role == INPUT)
+        return "changed, though only lent for reading";
+    if (piece->role == OUTPUT && refusal != 0)
+        return "written on a refusal";
+    return NULL;
+}
+
+/* Begins the answer line; the values of an answer, or the lent memory, follow it. */
+static enum outcome settle(uint8_t refusal)
+{
+    for (size_t i = 0; i < piece_count; i++) {
+        const char *wrong = breach(&pieces[i], refusal);
+        if (wrong != NULL) {
+            printf("broken GUARD %s %s", pieces[i].name, wrong);
+            return BROKEN;
+        }
+    }
+    if (refusal != 0) {
+        printf("refused %u", (unsigned)refusal);
+        return REFUSED;
+    }
+    printf("answered");
+    return ANSWERED;
+}
+
+static void print_number(uint32_t number)
+{
+    printf(" %" PRIu32, number);
+}
+
+static uint8_t *lend_bytes(enum role role, const struct given *given)
+{
+    uint8_t bytes[MOST_NUMBERS];
+    for (size_t i = 0; i < given->count; i++)
+        bytes[i] = (uint8_t)given->numbers[i];
+    return lend(role, "bytes", bytes, given->count);
+}
+
+static void replay_encode(const struct given *given)
+{
+    uint32_t *codeword = lend_output("codeword", sizeof *codeword);
+    if (settle(garthumor_encode(given->head, codeword)) == ANSWERED)
+        print_number(*codeword);
+}
+
+static void replay_read(const struct given *given)
+{
+    uint32_t *message = lend_output("message", sizeof *message);
+    if (settle(garthumor_read(given->head, message)) == ANSWERED)
+        print_number(*message);
+}
+
+static void replay_syndrome(const struct given *given)
+{
+    uint32_t *syndrome = lend_output("syndrome", sizeof *syndrome);
+    if (settle(garthumor_syndrome(given->head, syndrome)) == ANSWERED)
+        print_number(*syndrome);
+}
+
+static void replay_write_bytes(const struct given *given)
+{
+    uint8_t *bytes = lend_bytes(MEMORY, given);
+    if (settle(garthumor_write_bytes(given->head, bytes, given->count)) == BROKEN)
+        return;
+    printf(" |");
+    for (size_t i = 0; i < given->count; i++)
+        print_number(bytes[i]);
+}
+
+static void replay_read_bytes(const struct given *given)
+{
+    const uint8_t *bytes = lend_bytes(INPUT, given);
+    uint32_t *codeword = lend_output("codeword", sizeof *codeword);
+    if (settle(garthumor_read_bytes(bytes, given->count, codeword)) == ANSWERED)
+        print_number(*codeword);
+}
+
+#ifdef GARTHUMOR_HARD
+static void replay_correct(const struct given *given)
+{
+    uint32_t *codeword = lend_output("codeword", sizeof *codeword);
+    uint32_t *distance = lend_output("distance", sizeof *distance);
+    if (settle(garthumor_correct(given->head, codeword, distance)) != ANSWERED)
+        return;
+    print_number(*codeword);
+    print_number(*distance);
+}
+
+static void replay_candidates(const struct given *given)
+{
+    uint32_t contents[MOST_NUMBERS];
+    for (size_t i = 0; i < given->count; i++)
+        contents[i] = (uint32_t)given->numbers[i];
+    uint32_t *slots = lend(MEMORY, "slots", contents, given->count * sizeof *slots);
+    if (settle(garthumor_candidates(given->head, slots, given->count)) == BROKEN)
+        return;
+    printf(" |");
+    for (size_t i = 0; i < given->count; i++)
+        print_number(slots[i]);
+}
+#else
+#define replay_correct NULL
+#define replay_candidates NULL
+#endif
+
+#if defined GARTHUMOR_SOFT || defined GARTHUMOR_QUICK
+static const int32_t *lend_reading(const struct given *given)
+{
+    int32_t confidences[MOST_NUMBERS];
+    for (size_t i = 0; i < given->count; i++)
+        confidences[i] = (int32_t)given->numbers[i];
+    return lend(INPUT, "reading", confidences, given->count * sizeof *confidences);
+}
+#endif
+
+#ifdef GARTHUMOR_SOFT
+static void print_wide_number(int64_t number)
+{
+    printf(" %" PRId64, number);
+}
+
+static void replay_class_figure(const struct given *given)
+{
+    const int32_t *reading = lend_reading(given);
+    int64_t *figure = lend_output("figure", sizeof *figure);
+    if (settle(garthumor_class_figure(reading, given->count, given->head, figure)) == ANSWERED)
+        print_wide_number(*figure);
+}
+
+static void replay_soft(const struct given *given)
+{
+    const int32_t *reading = lend_reading(given);
+    uint32_t *message = lend_output("message", sizeof *message);
+    uint32_t *codeword = lend_output("codeword", sizeof *codeword);
+    int64_t *correlation = lend_output("correlation", sizeof *correlation);
+    int64_t *reserve = lend_output("reserve", sizeof *reserve);
+    uint8_t refusal = garthumor_soft(reading, given->count, message, codeword, correlation, reserve);
+    if (settle(refusal) != ANSWERED)
+        return;
+    print_number(*message);
+    print_number(*codeword);
+    print_wide_number(*correlation);
+    print_wide_number(*reserve);
+}
+#else
+#define replay_class_figure NULL
+#define replay_soft NULL
+#endif
+
+#ifdef GARTHUMOR_QUICK
+static void replay_quick(const struct given *given)
+{
+    const int32_t *reading = lend_reading(given);
+    uint32_t *codeword = lend_output("codeword", sizeof *codeword);
+    if (settle(garthumor_quick(reading, given->count, codeword)) == ANSWERED)
+        print_number(*codeword);
+}
+#else
+#define replay_quick NULL
+#endif
+
+static const struct call calls[] = {
+    { "encode", 1, 0, 0, 0, replay_encode },
+    { "read", 1, 0, 0, 0, replay_read },
+    { "syndrome", 1, 0, 0, 0, replay_syndrome },
+    { "write_bytes", 1, MOST_NUMBERS - 1, 0, UINT8_MAX, replay_write_bytes },
+    { "read_bytes", 0, MOST_NUMBERS, 0, UINT8_MAX, replay_read_bytes },
+    { "correct", 1, 0, 0, 0, replay_correct },
+    { "candidates", 1, MOST_NUMBERS - 1, 0, UINT32_MAX, replay_candidates },
+    { "class_figure", 1, MOST_NUMBERS - 1, INT32_MIN, INT32_MAX, replay_class_figure },
+    { "soft", 0, MOST_NUMBERS, INT32_MIN, INT32_MAX, replay_soft },
+    { "quick", 0, MOST_NUMBERS, INT32_MIN, INT32_MAX, replay_quick },
+};
+
+static const struct call *call_named(const char *name)
+{
+    for (size_t i = 0; i < sizeof calls / sizeof calls[0]; i++)
+        if (strcmp(calls[i].name, name) == 0)
+            return &calls[i];
+    fail("no such call: ", name);
+    return NULL;
+}
+
+/* Cuts the next word off the rest of the line; NULL where none is left. */
+static char *next_word(char **rest)
+{
+    char *word = *rest;
+    if (word == NULL)
+        return NULL;
+    char *space = strchr(word, ' ');
+    if (space != NULL)
+        *space++ = '\0';
+    *rest = space;
+    return word;
+}
+
+/* One spelling a number: what doesn't print back as it was ("+1", "01", nothing) is no number. */
+static int64_t number_of(const char *word, int64_t least, int64_t most)
+{
+    char printed[32];
+    int64_t number = strtoll(word, NULL, 10);
+    snprintf(printed, sizeof printed, "%" PRId64, number);
+    if (strcmp(printed, word) != 0 || number < least || number > most)
+        fail("no number in the range of its place: ", word);
+    return number;
+}
+
+static void read_numbers(const struct call *call, char *rest, struct given *given)
+{
+    char *word;
+    given->head = 0;
+    given->count = 0;
+    if (call->has_head) {
+        word = next_word(&rest);
+        if (word == NULL)
+            fail("a number is missing after ", call->name);
+        given->head = (uint32_t)number_of(word, 0, UINT32_MAX);
+    }
+    while ((word = next_word(&rest)) != NULL) {
+        if (given->count == call->most_numbers)
+            fail("too many numbers after ", call->name);
+        given->numbers[given->count++] = number_of(word, call->least, call->most);
+    }
+}
+
+static void replay_line(char *line)
+{
+    struct given given;
+    char *rest = line;
+    const struct call *call = call_named(next_word(&rest));
+    if (call->replay == NULL)
+        fail("not compiled in: ", call->name);
+    read_numbers(call, rest, &given);
+    call->replay(&given);
+    putchar('\n');
+    give_back();
+}
+
+/* Takes the line feed off; a buffer without one is the last line or a line that didn't fit. */
+static void end_line(char *line)
+{
+    size_t length = strlen(line);
+    if (length > 0 && line[length - 1] == '\n')
+        line[length - 1] = '\0';
+    else if (!feof(stdin))
+        fail("a line longer than the longest case", "");
+}
+
+int main(int argc, char **argv)
+{
+    char line[LINE_BYTES];
+    if (argc != 1) {
+        fprintf(stderr, "usage: %s <CASES >ANSWERS\n", argv[0]);
+        return 2;
+    }
+    while (fgets(line, sizeof line, stdin) != NULL) {
+        line_number++;
+        end_line(line);
+        replay_line(line);
+    }
+    if (ferror(stdin))
+        fail("can't be read", "");
+    if (fflush(stdout) != 0 || ferror(stdout)) {
+        fprintf(stderr, "replay: standard output: can't be written\n");
+        return 1;
+    }
+    return 0;
+}
