@@ -264,7 +264,8 @@ static void replay_soft(const struct given *given)
     uint32_t *codeword = lend_output("codeword", sizeof *codeword);
     int64_t *correlation = lend_output("correlation", sizeof *correlation);
     int64_t *reserve = lend_output("reserve", sizeof *reserve);
-    uint8_t refusal = garthumor_soft(reading, given->count, message, codeword, correlation, reserve);
+    uint8_t refusal =
+        garthumor_soft(reading, given->count, message, codeword, correlation, reserve);
     if (settle(refusal) != ANSWERED)
         return;
     print_number(*message);

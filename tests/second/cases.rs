@@ -59,24 +59,6 @@ impl Kind {
 /// Words on both sides of the largest one.
 const WORD_BOUNDS: [u32; 6] = [0, WORDS - 1, WORDS, WORDS + 1, 1 << 31, u32::MAX];
 
-fn any_word(chance: &mut Chance) -> u32 {
-    chance.below(u64::from(WORDS)) as u32
-}
-
-fn any_codeword(chance: &mut Chance, code: &Code) -> u32 {
-    chance.pick(&code.codewords)
-}
-
-/// A word above the range whose lower 24 bits may be a codeword: cutting it down must not pass.
-fn word_above(chance: &mut Chance, code: &Code) -> u32 {
-    let lower = if chance.one_in(2) {
-        any_codeword(chance, code)
-    } else {
-        any_word(chance)
-    };
-    chance.between(1, 255) as u32 * WORDS | lower
-}
-
 /// A reading of another length, cut from the given one or continued by its beginning.
 fn of_length(reading: &[i32], length: usize) -> Vec<i32> {
     reading.iter().cycle().take(length).copied().collect()

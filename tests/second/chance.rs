@@ -1,4 +1,4 @@
-//! The seeded generator of the random cases: splitmix64, so that a seed gives the same lines anywhere.
+//! The seeded generator of the random cases: splitmix64, the same on every machine.
 
 pub struct Chance {
     state: u64,
@@ -17,7 +17,7 @@ impl Chance {
         mixed ^ mixed >> 31
     }
 
-    /// A number below the bound; that the remainder favours small ones slightly does no harm in tests.
+    /// A number below the bound; a remainder favours small ones slightly, which does no harm here.
     pub fn below(&mut self, bound: u64) -> u64 {
         self.next() % bound
     }

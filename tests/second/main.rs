@@ -1,8 +1,7 @@
-//! The second program's commands. It decides by brute force, from document 01 alone, what every call
-//! must answer.
+//! The second program's commands: it decides by brute force what every call must answer.
 //!
-//! It shares no table and no trick with the proved code, so that a slip of the one can't be a slip of
-//! the other.
+//! It is written from document 01 alone and shares no table and no trick with the proved code, so
+//! that a slip of the one can't be a slip of the other.
 
 mod capture;
 mod cases;
@@ -14,6 +13,7 @@ mod line;
 mod readings;
 #[cfg(test)]
 mod tests;
+mod words;
 
 use cases::Kind;
 use code::Code;
@@ -83,10 +83,15 @@ fn run(words: &[&str], out: &mut dyn Write) -> Result<(), Failure> {
         ["answers"] => print_all(&cases_of_standard_input()?, out, |case| {
             case.answer_line(&code)
         }),
-        ["compare", cases, answers] => match compare::compare(&code, cases, answers, out)? {
-            true => Ok(()),
-            false => Err(Failure::Disagreement),
-        },
+        ["compare", cases, answers] => {
+            let report = compare::compare(&code, cases, answers)?;
+            print_text(&report.text, out)?;
+            if report.passed {
+                Ok(())
+            } else {
+                Err(Failure::Disagreement)
+            }
+        }
         ["capture", file] => {
             let bytes = fs::read(file).map_err(|reason| format!("{file}: {reason}"))?;
             print_text(&capture::output(&code, &bytes), out)

@@ -2,6 +2,7 @@
 
 use crate::chance::Chance;
 use crate::code::{bit_at, Code, COLUMNS, POSITIONS};
+use crate::words::{any_codeword, damaged};
 
 /// The largest size of a confidence.
 pub const MOST: i64 = 2_147_483_647;
@@ -36,28 +37,17 @@ fn sizes(chance: &mut Chance, least: i64, most: i64) -> Vec<i64> {
         .collect()
 }
 
-fn codeword(chance: &mut Chance, code: &Code) -> u32 {
-    chance.pick(&code.codewords)
-}
-
-/// A word with the given number of its positions changed.
-pub fn damaged(chance: &mut Chance, word: u32, errors: usize) -> u32 {
-    chance.order(POSITIONS)[..errors]
-        .iter()
-        .fold(word, |word, place| word ^ 1 << place)
-}
-
 fn signal(chance: &mut Chance, code: &Code) -> Vec<i32> {
     let loudest = 1 << chance.between(1, 29);
     let strength = chance.between(1, loudest);
     let noise = 3 * strength / 2;
     let sizes = sizes(chance, strength - noise, strength + noise);
-    speaking_for(codeword(chance, code), &sizes)
+    speaking_for(any_codeword(chance, code), &sizes)
 }
 
 fn weak_signal(chance: &mut Chance, code: &Code) -> Vec<i32> {
     let sizes = sizes(chance, -1, 3);
-    speaking_for(codeword(chance, code), &sizes)
+    speaking_for(any_codeword(chance, code), &sizes)
 }
 
 fn weak(chance: &mut Chance, _: &Code) -> Vec<i32> {
@@ -80,7 +70,7 @@ fn extremes(chance: &mut Chance, _: &Code) -> Vec<i32> {
 fn near_extremes(chance: &mut Chance, code: &Code) -> Vec<i32> {
     let sizes = sizes(chance, MOST - 3, MOST);
     let errors = chance.below(5) as usize;
-    let word = codeword(chance, code);
+    let word = any_codeword(chance, code);
     speaking_for(damaged(chance, word, errors), &sizes)
 }
 
@@ -93,7 +83,7 @@ fn two_weak_columns(chance: &mut Chance, code: &Code) -> Vec<i32> {
             *size = chance.between(-2, 4);
         }
     }
-    speaking_for(codeword(chance, code), &sizes)
+    speaking_for(any_codeword(chance, code), &sizes)
 }
 
 /// A column whose sum is zero counts as either interpretation; two such columns make a tie.
@@ -107,7 +97,7 @@ fn cancelled_column(chance: &mut Chance, code: &Code) -> Vec<i32> {
         }
         column[3] = -(column[0] + column[1] + column[2]);
     }
-    speaking_for(codeword(chance, code), &sizes)
+    speaking_for(any_codeword(chance, code), &sizes)
 }
 
 /// Signs close to a codeword that loud confidences outvote: the quick answer isn't the soft one.
@@ -117,11 +107,11 @@ fn loud_wrong(chance: &mut Chance, code: &Code) -> Vec<i32> {
     for place in &chance.order(POSITIONS)[..errors] {
         sizes[*place] = -chance.between(5, 100);
     }
-    speaking_for(codeword(chance, code), &sizes)
+    speaking_for(any_codeword(chance, code), &sizes)
 }
 
 fn four_wrong_of_sizes(chance: &mut Chance, code: &Code, least: i64, most: i64) -> Vec<i32> {
-    let word = codeword(chance, code);
+    let word = any_codeword(chance, code);
     let word = damaged(chance, word, 4);
     let sizes = sizes(chance, least, most);
     speaking_for(word, &sizes)

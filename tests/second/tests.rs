@@ -339,19 +339,15 @@ fn compared(name: &str, cases: &str, answers: &str) -> (bool, String) {
     let (cases_file, answers_file) = (file("cases"), file("answers"));
     fs::write(&cases_file, cases).expect("a file of cases");
     fs::write(&answers_file, answers).expect("a file of answers");
-    let mut report = Vec::new();
-    let passed = compare(
+    let report = compare(
         &code(),
         &cases_file.to_string_lossy(),
         &answers_file.to_string_lossy(),
-        &mut report,
-    );
+    )
+    .expect("readable files");
     fs::remove_file(cases_file).expect("the file of cases");
     fs::remove_file(answers_file).expect("the file of answers");
-    (
-        passed.expect("readable files"),
-        String::from_utf8(report).expect("a report in UTF-8"),
-    )
+    (report.passed, report.text)
 }
 
 #[test]

@@ -1,7 +1,7 @@
 -- Document 01, "The array and its characters" and "Messages, codewords and syndromes": which words are codewords, how a message is encoded,
 -- what a codeword's message is, and the syndrome of any word.
 use mathlib.Core.Bool.{Bool, true, false, _&&_}
-use mathlib.Core.List.{List, [], _∷_, map}
+use mathlib.Core.List.{List, [], _∷_, _++_, map}
 use Prim.Native.Nat.{ℕ, _+_, _*_, _/_, _%_, _^_}
 use lib.Dec.{eqb}
 use lib.ListN.{replicate}
@@ -40,14 +40,13 @@ characterOf k m = m / 2 ^ k % 4
 abbrev pub topBits : ℕ → List ℕ
 topBits m = bitOf 4 m ∷ bitOf 3 m ∷ bitOf 2 m ∷ bitOf 1 m ∷ bitOf 0 m ∷ []
 
-abbrev pub allTopBits : ℕ → List ℕ
-allTopBits m =
-    bitOf 4 m ∷ bitOf 3 m ∷ bitOf 2 m ∷ bitOf 1 m ∷ bitOf 0 m ∷ (bitOf 11 m + total (topBits m)) % 2 ∷ []
+abbrev pub sixTopBits : ℕ → List ℕ
+sixTopBits m = topBits m ++ ((bitOf 11 m + total (topBits m)) % 2 ∷ [])
 
 -- the codeword of a message
 unfoldable pub codewordOf : ℕ → ℕ
 codewordOf m =
-    joined (interpreted (bitOf 11 m) (hexacodeword (characterOf 9 m) (characterOf 7 m) (characterOf 5 m)) (allTopBits m))
+    joined (interpreted (bitOf 11 m) (hexacodeword (characterOf 9 m) (characterOf 7 m) (characterOf 5 m)) (sixTopBits m))
 
 -- the message of a codeword: the parity, the three characters and the five top bits, put back in their places
 unfoldable pub messageOf : ℕ → ℕ

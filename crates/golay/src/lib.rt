@@ -10,6 +10,7 @@ ghost use Rattle.golay.specs.Bytes.{wordOf};
 ghost use Rattle.golay.specs.Calls.{encodeRule, readRule, syndromeRule, distanceRule, readBytesRule, WritesBytes};
 
 pub mod kinds;
+mod rows;
 
 use kinds::Codeword;
 use kinds::DistanceAnswer;
@@ -21,82 +22,13 @@ use kinds::Refusal;
 use kinds::Syndrome;
 use kinds::SyndromeAnswer;
 use kinds::WriteBytesAnswer;
+use rows::CODEWORDS;
+use rows::MESSAGE_BITS;
+use rows::SYNDROMES;
 
 const MESSAGES: u32 = 4_096;
 
 const WORDS: u32 = 16_777_216;
-
-// The codewords of the single-bit messages, from message 001 up to message 800.
-const CODEWORDS: [u32; 12] = [
-    0x0000FF,
-    0x000F0F,
-    0x00F00F,
-    0x0F000F,
-    0xF0000F,
-    0x003333,
-    0x005555,
-    0x030356,
-    0x050563,
-    0x300365,
-    0x500536,
-    0x777778,
-];
-
-// The syndromes of the single positions, from position 24 up to position 1.
-const SYNDROMES: [u32; 24] = [
-    0x083,
-    0x082,
-    0x081,
-    0x0C0,
-    0x10C,
-    0x108,
-    0x104,
-    0x140,
-    0x230,
-    0x220,
-    0x210,
-    0x240,
-    0x43F,
-    0x42A,
-    0x415,
-    0x440,
-    0x836,
-    0x82D,
-    0x81B,
-    0x840,
-    0xFF9,
-    0xFE7,
-    0xFDE,
-    0xF80,
-];
-
-// The message bits that a one at each position puts in, from position 24 up to position 1.
-const MESSAGE_BITS: [u32; 24] = [
-    0x000,
-    0x000,
-    0x000,
-    0x000,
-    0x000,
-    0x000,
-    0x000,
-    0x001,
-    0x000,
-    0x000,
-    0x000,
-    0x002,
-    0x060,
-    0x040,
-    0x020,
-    0x004,
-    0x180,
-    0x100,
-    0x080,
-    0x008,
-    0xE00,
-    0xC00,
-    0xA00,
-    0x810,
-];
 
 // The exclusive or of the rows at the ones of word, lowest bit first.
 fn row_sum(rows: &[u32], word: u32) -> u32
@@ -204,13 +136,13 @@ pub fn write_bytes(word: u32, bytes: &mut [u8]) -> WriteBytesAnswer
     if word >= WORDS {
         return WriteBytesAnswer::Refused(Refusal::WordAbove);
     }
-    if !is_codeword(word) {
-        return WriteBytesAnswer::Refused(Refusal::NotCodeword);
+    if is_codeword(word) {
+        bytes[0] = (word / 65_536 % 256) as u8;
+        bytes[1] = (word / 256 % 256) as u8;
+        bytes[2] = (word % 256) as u8;
+        return WriteBytesAnswer::Accepted;
     }
-    bytes[0] = (word / 65_536 % 256) as u8;
-    bytes[1] = (word / 256 % 256) as u8;
-    bytes[2] = (word % 256) as u8;
-    WriteBytesAnswer::Accepted
+    WriteBytesAnswer::Refused(Refusal::NotCodeword)
 }
 
 // The codeword that three bytes hold. Refuses 1, then 5.

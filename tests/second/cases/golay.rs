@@ -1,10 +1,10 @@
 //! The cases of encoding, reading back, syndromes and codeword bytes.
 
-use super::{any_codeword, any_word, word_above, WORD_BOUNDS};
+use super::WORD_BOUNDS;
 use crate::chance::Chance;
 use crate::code::{Code, MESSAGES, POSITIONS, WORDS};
 use crate::line::Case;
-use crate::readings::damaged;
+use crate::words::{any_codeword, any_word, at_each_distance, damaged, word_above};
 
 const EXAMPLE_MESSAGES: [u32; 7] = [0x000, 0x800, 0x400, 0x200, 0x080, 0x020, 0x01F];
 const EXAMPLE_WORDS: [u32; 4] = [0x800000, 0x400000, 0x000008, 0x000001];
@@ -73,21 +73,9 @@ fn boundaries(code: &Code) -> Vec<Case> {
                 .map(|&length| Case::WriteBytes(word, vec![7; length])),
         );
     }
-    cases.extend(
-        BUFFER_LENGTHS
-            .iter()
-            .map(|&length| Case::ReadBytes(vec![0; length])),
-    );
-    cases.extend(
-        BUFFER_LENGTHS
-            .iter()
-            .map(|&length| Case::ReadBytes(vec![1; length])),
-    );
-    cases.extend(
-        BUFFER_LENGTHS
-            .iter()
-            .map(|&length| Case::ReadBytes(vec![255; length])),
-    );
+    for &length in &BUFFER_LENGTHS {
+        cases.extend([0, 1, 255].map(|byte| Case::ReadBytes(vec![byte; length])));
+    }
     cases
 }
 
@@ -122,11 +110,7 @@ fn round(code: &Code, chance: &mut Chance) -> Vec<Case> {
 
 /// A codeword, a codeword with 1, 2, 3 and 4 errors, any word, and a word above the range.
 fn words_of_a_round(code: &Code, chance: &mut Chance) -> Vec<u32> {
-    let mut words = Vec::new();
-    for errors in 0..=4 {
-        let codeword = any_codeword(chance, code);
-        words.push(damaged(chance, codeword, errors));
-    }
+    let mut words = at_each_distance(chance, code);
     words.push(any_word(chance));
     words.push(word_above(chance, code));
     words

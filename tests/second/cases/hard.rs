@@ -1,10 +1,10 @@
 //! The cases of correction and of the six candidates.
 
-use super::{any_codeword, any_word, word_above, WORD_BOUNDS};
+use super::WORD_BOUNDS;
 use crate::chance::Chance;
 use crate::code::{Code, POSITIONS, WORDS};
 use crate::line::Case;
-use crate::readings::damaged;
+use crate::words::{any_codeword, any_word, at_each_distance, word_above};
 
 const EXAMPLE_WORDS: [u32; 2] = [0x777770, 0xF00000];
 const SLOT_COUNTS: [usize; 4] = [0, 5, 6, 7];
@@ -97,13 +97,11 @@ fn slots(chance: &mut Chance, count: usize) -> Vec<u32> {
     (0..count).map(|_| chance.next() as u32).collect()
 }
 
-/// Any word, a word above and words at each distance; each corrected and asked for candidates.
+/// Words at each distance, any word and a word above; each corrected and asked for candidates.
 fn round(code: &Code, chance: &mut Chance) -> Vec<Case> {
-    let mut words = vec![any_word(chance), word_above(chance, code)];
-    for errors in 0..=4 {
-        let codeword = any_codeword(chance, code);
-        words.push(damaged(chance, codeword, errors));
-    }
+    let mut words = at_each_distance(chance, code);
+    words.push(any_word(chance));
+    words.push(word_above(chance, code));
     let mut cases = Vec::new();
     for word in words {
         cases.push(Case::Correct(word));

@@ -1,4 +1,4 @@
-//! Sharpness of the reserve: changes of a total one below it keep the word, one of exactly it loses it.
+//! Sharpness: changes of a total one below the reserve keep the word, one of exactly it loses it.
 
 use crate::chance::Chance;
 use crate::code::{bit_at, Code, POSITIONS};
@@ -77,7 +77,8 @@ fn check(
     }
     let wanted = if wanted_kept { "keep" } else { "lose" };
     Err(format!(
-        "a change of {total} must {wanted} the word; {:?} changed by {reached} to {changed:?} gives {answer:?}",
+        "sharpness: a change of {total} must {wanted} the word of {:?}, \
+         but a change of {reached} to {changed:?} gives {answer:?}",
         accepted.reading
     ))
 }

@@ -11,51 +11,45 @@ use crate::readings::KINDS;
 
 const CLASSES_ABOVE: [u32; 4] = [CLASSES, CLASSES + 1, 256, u32::MAX];
 
-const SEEDED_READINGS: usize = 20_000;
-const SEEDED_CLASS_READINGS: usize = 500;
-const SEEDED_SHARP: usize = 400;
-const FIXED_READINGS: usize = 360;
-const FIXED_CLASS_READINGS: usize = 5;
-const FIXED_SHARP: usize = 40;
+/// How many readings are decoded, taken to all class figures, and changed by their reserve.
+struct Amounts {
+    decoded: usize,
+    classed: usize,
+    changed: usize,
+}
+
+const SEEDED: Amounts = Amounts {
+    decoded: 20_000,
+    classed: 500,
+    changed: 400,
+};
+
+const FIXED: Amounts = Amounts {
+    decoded: 360,
+    classed: 5,
+    changed: 40,
+};
 
 pub fn seeded(code: &Code, chance: &mut Chance) -> Result<Vec<Case>, String> {
-    gathered(
-        code,
-        chance,
-        SEEDED_READINGS,
-        SEEDED_CLASS_READINGS,
-        SEEDED_SHARP,
-    )
+    gathered(code, chance, SEEDED)
 }
 
 pub fn fixed(code: &Code, chance: &mut Chance) -> Result<Vec<Case>, String> {
-    gathered(
-        code,
-        chance,
-        FIXED_READINGS,
-        FIXED_CLASS_READINGS,
-        FIXED_SHARP,
-    )
+    gathered(code, chance, FIXED)
 }
 
-fn gathered(
-    code: &Code,
-    chance: &mut Chance,
-    many: usize,
-    classed: usize,
-    sharp: usize,
-) -> Result<Vec<Case>, String> {
+fn gathered(code: &Code, chance: &mut Chance, many: Amounts) -> Result<Vec<Case>, String> {
     let mut cases = examples();
     cases.extend(refused_readings(code, chance));
     cases.extend(refused_classes(code, chance));
-    cases.extend((0..many).map(|i| Case::Soft(reading(code, chance, i))));
-    for i in 0..classed {
+    cases.extend((0..many.decoded).map(|i| Case::Soft(reading(code, chance, i))));
+    for i in 0..many.classed {
         let reading = reading(code, chance, i);
         cases.extend((0..CLASSES).map(|class| Case::ClassFigure(class, reading.clone())));
         let above = chance.between(i64::from(CLASSES), i64::from(u32::MAX)) as u32;
         cases.push(Case::ClassFigure(above, reading));
     }
-    cases.extend(sharp::cases(code, chance, sharp)?);
+    cases.extend(sharp::cases(code, chance, many.changed)?);
     Ok(cases)
 }
 

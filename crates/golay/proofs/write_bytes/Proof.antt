@@ -1,10 +1,11 @@
 -- `golay::write_bytes` meets its contract: each refusal stands before the first store.
 -- Assumes nothing.
 use mathlib.Core.Path.{_≡_, refl, _∙_, sym}
+use mathlib.Core.Bool.{true, false}
 use lib.ListN.{length}
 use denote.Ref.{now}
 use borrow.Author.Needs.{needs}
-use borrow.Author.Tests.{not-true, not-false}
+use Rattle.code.specs.Code.{isCodeword}
 use Rattle.golay.proofs.Rules.{write-length, write-above, write-outside, write-inside}
 use Rattle.golay.proofs.Bytes.{three-written}
 use Rattle.golay.proofs.write_bytes.Statement.{statement}
@@ -22,16 +23,6 @@ returns-2 c =
 
 is-codeword-requires : tie.Need-is-codeword-requires
 is-codeword-requires c κs = search needs
-
-returns-3 : tie.Need-returns-3
-returns-3 c =
-    let called = c .before in
-    let start = called .before .before .before .before in
-    let e = sym (called .is-codeword .ensures) ∙ not-true _ (c .if3 .taken) in
-    record {
-      answered = sym (write-outside (start .args .word) (now (start .args .bytes)) (called .before .before .if1 .left) (called .before .if2 .left) e);
-      buffer = refl;
-    }
 
 cast-bytes : tie.Need-cast-bytes
 cast-bytes c = search needs
@@ -54,15 +45,25 @@ slice-write-bytes-3 c = search needs
 same-length : tie.Need-same-length
 same-length c = search needs
 
+returns-3 : tie.Need-returns-3
+returns-3 c =
+    let called = c .before in
+    let start = called .before .before .before .before in
+    let l : length (now (start .args .bytes)) ≡ 3 = called .before .before .if1 .left in
+    let e : isCodeword (start .args .word) ≡ true = sym (called .is-codeword .ensures) ∙ c .if3 .taken in
+    record {
+      answered = sym (write-inside (start .args .word) (now (start .args .bytes)) l (called .before .if2 .left) e);
+      buffer = three-written _ _ _ (now (start .args .bytes)) l;
+    }
+
 returns-4 : tie.Need-returns-4
 returns-4 c =
     let called = c .before in
     let start = called .before .before .before .before in
-    let l : length (now (start .args .bytes)) ≡ 3 = called .before .before .if1 .left in
-    let e = sym (called .is-codeword .ensures) ∙ not-false _ (c .if3 .left) in
+    let e : isCodeword (start .args .word) ≡ false = sym (called .is-codeword .ensures) ∙ c .if3 .left in
     record {
-      answered = sym (write-inside (start .args .word) (now (start .args .bytes)) l (called .before .if2 .left) e);
-      buffer = three-written _ _ _ (now (start .args .bytes)) l;
+      answered = sym (write-outside (start .args .word) (now (start .args .bytes)) (called .before .before .if1 .left) (called .before .if2 .left) e);
+      buffer = refl;
     }
 
 pub write-bytes-spec : {M : Type 1} → statement M
@@ -72,7 +73,6 @@ write-bytes-spec =
     returns
     returns-2
     is-codeword-requires
-    returns-3
     cast-bytes
     slice-write-bytes
     cast-bytes-2
@@ -80,4 +80,5 @@ write-bytes-spec =
     cast-bytes-3
     slice-write-bytes-3
     same-length
+    returns-3
     returns-4)
