@@ -5,6 +5,7 @@ ghost use lib.ListN.{length};
 ghost use Rattle.binary.specs.Words.{rowSum};
 ghost use Rattle.binary.specs.Words as words;
 ghost use Rattle.code.specs.Code.{words, isCodeword};
+ghost use Rattle.golay.specs.Refusals.{number};
 ghost use Rattle.golay.specs.Answers.{encodeAnswer, readAnswer, syndromeAnswer, distanceAnswer, writeBytesAnswer, readBytesAnswer};
 ghost use Rattle.golay.specs.Bytes.{wordOf};
 ghost use Rattle.golay.specs.Calls.{encodeRule, readRule, syndromeRule, distanceRule, readBytesRule, WritesBytes};
@@ -64,6 +65,25 @@ fn word_of(bytes: &[u8]) -> u32
     ensures { λ r. ⌜ (r ≡ wordOf (now (bytes .entry))) × (r < words) ⌝ }
 {
     wide(bytes[0]) * 65_536 + wide(bytes[1]) * 256 + wide(bytes[2])
+}
+
+// The number of a refusal, as document 01 counts them.
+pub fn refusal_number(reason: Refusal) -> u8
+    ensures { λ r. ⌜ r ≡ number reason ⌝ }
+{
+    match reason {
+        Refusal::WrongLength => 1,
+        Refusal::MostNegative => 2,
+        Refusal::MessageAbove => 3,
+        Refusal::WordAbove => 4,
+        Refusal::NotCodeword => 5,
+        Refusal::Tied => 6,
+        Refusal::DistanceFour => 7,
+        Refusal::NotDistanceFour => 8,
+        Refusal::NoMark => 9,
+        Refusal::CutShort => 10,
+        Refusal::ClassAbove => 11,
+    }
 }
 
 // The codeword of a message, added up from the twelve. Refuses 3.

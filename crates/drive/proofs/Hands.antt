@@ -1,0 +1,40 @@
+-- What a call hands back, from what the call below it answered.
+-- Assumes nothing.
+use mathlib.Core.Path.{_≡_, refl, sym, ap, _∙_}
+use mathlib.Core.List.{List}
+use Prim.Native.Nat.{ℕ}
+use Rattle.golay.specs.Answers.{Answer, accepted, refused, lent}
+use Rattle.golay.specs.Bytes.{bytesOf}
+use Rattle.golay.specs.Calls.{writeBytesRule, WritesBytes}
+use Rattle.drive.specs.Drive.{HandsBack, returned, output}
+
+module _ {A M : Type 0} {answer : Answer A} {made : A → M} {before : M} where
+  pub hands-value : {x : A} → accepted x ≡ answer → HandsBack answer made before (made x) 0
+  hands-value e = rw (← e) (record { status-is = refl; output-is = refl })
+
+  pub hands-refusal : {n : ℕ} → refused n ≡ answer → HandsBack answer made before before n
+  hands-refusal e = rw (← e) (record { status-is = refl; output-is = refl })
+
+-- the byte writer's own promise, with its status
+module _ (word : ℕ) (before after : List ℕ) where
+  kept : (answer : Answer (Unit {0})) → lent answer before (bytesOf word) ≡ output (λ x. bytesOf word) answer before
+  kept (accepted x) = refl
+  kept (refused n) = refl
+
+  pub hands-bytes :
+      {answer : Answer (Unit {0})} {status : ℕ}
+      → WritesBytes word before answer after
+      → status ≡ returned answer
+      → HandsBack (writeBytesRule word before) (λ x. bytesOf word) before after status
+  hands-bytes {answer} p e = record {
+    status-is = e ∙ ap returned (p .answered);
+    output-is = p .buffer ∙ kept answer ∙ ap (λ (a : Answer (Unit {0})). output (λ x. bytesOf word) a before) (p .answered);
+  }
+
+-- two returns that a promise allows are equal, and so is what they leave
+pub hands-decided :
+    {A M : Type 0} {answer : Answer A} {made : A → M} {before after later : M} {status other : ℕ}
+    → HandsBack answer made before after status
+    → HandsBack answer made before later other
+    → (status ≡ other) × (after ≡ later)
+hands-decided p q = (p .status-is ∙ sym (q .status-is), p .output-is ∙ sym (q .output-is))

@@ -1,0 +1,72 @@
+// The entry points for C. Each is a thin call of a room below; include/garthumor.h declares them.
+ghost use Rattle.golay.specs.Bytes.{bytesOf};
+ghost use Rattle.golay.specs.Calls.{encodeRule, readRule, syndromeRule, writeBytesRule, readBytesRule};
+ghost use Rattle.drive.specs.Drive.{HandsBack, itself};
+use golay::kinds::EncodeAnswer;
+use golay::kinds::Message;
+use golay::kinds::ReadAnswer;
+use golay::kinds::ReadBytesAnswer;
+use golay::kinds::SyndromeAnswer;
+use golay::kinds::WriteBytesAnswer;
+
+#[no_mangle]
+pub extern "C" fn garthumor_encode(message: u32, codeword: &mut u32) -> u8
+    ensures { λ r. ⌜ HandsBack (encodeRule message) itself (now (codeword .entry)) (now (codeword .exit)) r ⌝ }
+{
+    match golay::encode(Message(message)) {
+        EncodeAnswer::Accepted(c) => {
+            *codeword = c.0;
+            0
+        }
+        EncodeAnswer::Refused(reason) => golay::refusal_number(reason),
+    }
+}
+
+#[no_mangle]
+pub extern "C" fn garthumor_read(word: u32, message: &mut u32) -> u8
+    ensures { λ r. ⌜ HandsBack (readRule word) itself (now (message .entry)) (now (message .exit)) r ⌝ }
+{
+    match golay::read(word) {
+        ReadAnswer::Accepted(m) => {
+            *message = m.0;
+            0
+        }
+        ReadAnswer::Refused(reason) => golay::refusal_number(reason),
+    }
+}
+
+#[no_mangle]
+pub extern "C" fn garthumor_syndrome(word: u32, syndrome: &mut u32) -> u8
+    ensures { λ r. ⌜ HandsBack (syndromeRule word) itself (now (syndrome .entry)) (now (syndrome .exit)) r ⌝ }
+{
+    match golay::syndrome(word) {
+        SyndromeAnswer::Accepted(s) => {
+            *syndrome = s.0;
+            0
+        }
+        SyndromeAnswer::Refused(reason) => golay::refusal_number(reason),
+    }
+}
+
+#[no_mangle]
+pub extern "C" fn garthumor_write_bytes(codeword: u32, bytes: &mut [u8]) -> u8
+    ensures { λ r. ⌜ HandsBack (writeBytesRule codeword (now (bytes .entry))) (λ x. bytesOf codeword) (now (bytes .entry)) (now (bytes .exit)) r ⌝ }
+{
+    match golay::write_bytes(codeword, bytes) {
+        WriteBytesAnswer::Accepted => 0,
+        WriteBytesAnswer::Refused(reason) => golay::refusal_number(reason),
+    }
+}
+
+#[no_mangle]
+pub extern "C" fn garthumor_read_bytes(bytes: &[u8], codeword: &mut u32) -> u8
+    ensures { λ r. ⌜ HandsBack (readBytesRule (now (bytes .entry))) itself (now (codeword .entry)) (now (codeword .exit)) r ⌝ }
+{
+    match golay::read_bytes(bytes) {
+        ReadBytesAnswer::Accepted(c) => {
+            *codeword = c.0;
+            0
+        }
+        ReadBytesAnswer::Refused(reason) => golay::refusal_number(reason),
+    }
+}
