@@ -1,0 +1,43 @@
+# Sourced by ./test and ./run: the tools that this machine lacks, and how it compiles and runs programs for x86-64.
+# Programs are for x86-64 whatever the machine; on Arm they run under the emulator of the Rattle kit.
+
+say() { printf '%s\n' "$*"; }
+die() { printf '%s: %s\n' "${0##*/}" "$*" >&2; exit 1; }
+
+# need COMMAND PACKAGE: has the command, installs Debian's package that has it, or says what is missing.
+need() {
+    command -v "$1" >/dev/null 2>&1 && return
+    if command -v apt-get >/dev/null 2>&1 && [ "$(id -u)" = 0 ]; then
+        say "$1 is missing: installing Debian's $2"
+        apt-get install -y "$2" >/dev/null 2>&1 || { apt-get update >/dev/null 2>&1 && apt-get install -y "$2" >/dev/null 2>&1; }
+    fi
+    command -v "$1" >/dev/null 2>&1 || die "$1 is missing; it is in Debian's package $2"
+}
+
+# The kit is two folders above the guide that `rt doc` prints.
+kit() {
+    command -v rt >/dev/null 2>&1 || die "rt, the command of the Rattle kit, is missing; it is in no Debian package"
+    guide=$(rt doc) || die "rt doc failed"
+    dirname "$(dirname "$guide")"
+}
+
+# Sets host_cc, host_cxx (compilers for x86-64) and emulator (empty where none is needed).
+hosts() {
+    case $(uname -m) in
+    x86_64)
+        need cc gcc
+        need c++ g++
+        host_cc=cc host_cxx=c++ emulator=''
+        ;;
+    aarch64)
+        need x86_64-linux-gnu-gcc gcc-x86-64-linux-gnu
+        need x86_64-linux-gnu-g++ g++-x86-64-linux-gnu
+        host_cc=x86_64-linux-gnu-gcc host_cxx=x86_64-linux-gnu-g++
+        emulator=$(kit)/on/aarch64/toolchain/bin/qemu-x86_64
+        [ -x "$emulator" ] || die "the Rattle kit has no emulator at $emulator"
+        ;;
+    *) die "neither x86-64 nor aarch64, but $(uname -m): the Rattle kit has nothing for it" ;;
+    esac
+    printf 'int main(void){return 0;}\n' >target/probe.c
+    "$host_cc" -static -o target/probe target/probe.c 2>/dev/null || die "$host_cc links no static program; on Arm it needs Debian's libc6-dev-amd64-cross"
+}
