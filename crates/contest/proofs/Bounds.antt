@@ -1,0 +1,51 @@
+-- How large a correlation gets in a range, and how far apart the losses of two words get.
+use mathlib.Core.Bool.{Bool, true, false}
+use mathlib.Core.List.{List, [], _∷_}
+use Prim.Native.Nat.{ℕ, zero, suc, _+_, _*_, _≤_, _<_}
+use native.Mathlib.Omega.{arith}
+use native.Mathlib.Nat.{add-mul}
+use lib.IntN.{ℤ, pos, natAbs}
+use lib.ListN.{length, getD}
+use Rattle.signed.specs.Sign.{signed}
+use Rattle.signed.specs.Within.{Within}
+use Rattle.signed.proofs.Parts.{lo, lo-neg, size-parts}
+use Rattle.signed.proofs.Bounds.{size-signed, size-add, within-pos}
+use Rattle.contest.specs.Words.{differ, one, distance}
+use Rattle.contest.specs.Readings.{InRange, correlation}
+use Rattle.contest.proofs.Loss.{Aligned, none, more, loss, weight}
+
+-- a range, number by number
+pub range-at : (B : ℕ) (xs : List ℤ) → InRange B xs → (k : ℕ) → Within B (getD xs k (pos 0))
+unfolding InRange
+range-at B [] r k = within-pos (omega arith)
+range-at B (x ∷ xs) r zero = r .0
+range-at B (x ∷ xs) r (suc k) = range-at B xs (r .1) k
+
+pub at-range : (B : ℕ) (xs : List ℤ) → ((k : ℕ) → k < length xs → Within B (getD xs k (pos 0))) → InRange B xs
+unfolding InRange
+at-range B [] w = tt
+at-range B (x ∷ xs) w = (w 0 (omega arith), at-range B xs (λ k h. w (suc k) (omega arith)))
+
+pub weight-range : (B : ℕ) (xs : List ℤ) → InRange B xs → weight xs ≤ length xs * B
+unfolding InRange
+weight-range B [] r = omega arith
+weight-range B (x ∷ xs) r = omega (arith, weight-range B xs (r .1), r .0 .within, add-mul 1 (length xs) B)
+
+pub correlation-weight : (bs : List Bool) (xs : List ℤ) → natAbs (correlation bs xs) ≤ weight xs
+unfolding correlation
+correlation-weight [] xs = omega arith
+correlation-weight (b ∷ bs) [] = omega arith
+correlation-weight (b ∷ bs) (x ∷ xs) = omega (arith, size-add (signed b x) (correlation bs xs), size-signed b x, correlation-weight bs xs)
+
+-- where two words agree they lose the same
+one-apart : (B : ℕ) (b c : Bool) (x : ℤ) → natAbs x ≤ B → lo (signed c x) ≤ lo (signed b x) + one (differ b c) * B
+one-apart B false false x h = omega arith
+one-apart B false true x h = omega (arith, lo-neg x, size-parts x)
+one-apart B true false x h = omega (arith, lo-neg x, size-parts x)
+one-apart B true true x h = omega arith
+
+pub apart : (B : ℕ) {bs cs : List Bool} {xs ys : List ℤ} → Aligned bs cs xs ys → InRange B xs → loss cs xs ≤ loss bs xs + distance bs cs * B
+unfolding InRange distance
+apart B none r = omega arith
+apart B (more {b = b} {c = c} {x = x} {bs = bs} {cs = cs} a) r =
+    omega (arith, one-apart B b c x (r .0 .within), apart B a (r .1), add-mul (one (differ b c)) (distance bs cs) B)

@@ -1,0 +1,12 @@
+pub mod Loss
+pub mod Bounds
+pub mod Span
+pub mod Decided
+pub mod Reserve
+pub mod Weaken
+pub mod Sharp
+pub mod Keeping
+pub mod KeptSpan
+pub mod Signs
+pub mod Numbers
+pub mod Block

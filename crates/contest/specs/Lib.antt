@@ -1,0 +1,5 @@
+pub mod Words
+pub mod Readings
+pub mod Largest
+pub mod Answers
+pub mod Kept

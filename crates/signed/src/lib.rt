@@ -1,0 +1,40 @@
+// Whole numbers with a sign: what a decoder asks of one. No function refuses a number.
+ghost use mathlib.Core.Path.{_≡_};
+ghost use lib.IntN.{pos, natAbs};
+ghost use lib.ListN.{getD};
+ghost use Rattle.signed.specs.Sign.{sign, signed};
+ghost use Rattle.signed.specs.Within.{Within};
+
+// The size. Of the most negative number the opposite is no i64, so it is taken one nearer to zero.
+pub fn size(v: i64) -> u64
+    ensures { λ r. ⌜ r ≡ natAbs v ⌝ }
+{
+    if v < 0 {
+        (-(v + 1)) as u64 + 1
+    } else {
+        v as u64
+    }
+}
+
+pub fn negative(v: i64) -> bool
+    ensures { λ r. ⌜ r ≡ sign v ⌝ }
+{
+    v < 0
+}
+
+// The number at i, wide enough to be negated; past the end 0.
+pub fn widened(x: &[i32], i: usize) -> i64
+    ensures { λ r. ⌜ r ≡ getD (now (x .entry)) i (pos 0) ⌝ }
+    ensures { λ r. ⌜ Within 2147483648 r ⌝ }
+{
+    if i < x.len() { x[i] as i64 } else { 0 }
+}
+
+// Negated where the bit is 1.
+pub fn signed_by(bit: bool, x: i32) -> i64
+    ensures { λ r. ⌜ r ≡ signed bit x ⌝ }
+    ensures { λ r. ⌜ Within 2147483648 r ⌝ }
+{
+    let v = x as i64;
+    if bit { -v } else { v }
+}
