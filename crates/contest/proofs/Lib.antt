@@ -1,6 +1,7 @@
 pub mod Loss
 pub mod Bounds
 pub mod Span
+pub mod Runs
 pub mod Decided
 pub mod Reserve
 pub mod Weaken
@@ -10,3 +11,5 @@ pub mod KeptSpan
 pub mod Signs
 pub mod Numbers
 pub mod Block
+pub mod Figures
+pub mod Codes
