@@ -1,0 +1,120 @@
+// Hard correction and the six candidates at distance four, both by the table of error patterns. Each call answers for every input, and its
+// promise decides the whole answer and what the slots hold.
+ghost use mathlib.Core.Path.{_≡_};
+ghost use Prim.Native.Nat.{_<_};
+ghost use lib.ListN.{length};
+ghost use Rattle.binary.specs.Words.{ones};
+ghost use Rattle.code.specs.Code.{words, syndromeOf};
+ghost use Rattle.patterns.specs.Patterns.{IsPattern};
+ghost use Rattle.hard.specs.Answers.{correctAnswer, candidatesAnswer};
+ghost use Rattle.hard.specs.Calls.{Corrects, WritesCandidates};
+ghost use Rattle.hard.specs.Candidates.{Candidates, AtFour};
+
+pub mod kinds;
+mod table;
+
+use golay::kinds::Codeword;
+use golay::kinds::Refusal;
+use golay::kinds::SyndromeAnswer;
+use kinds::CandidatesAnswer;
+use kinds::CorrectAnswer;
+use table::PATTERNS;
+
+// The syndromes of the single positions, from position 24 up to position 1.
+const SYNDROMES: [u32; 24] = [
+    0x083,
+    0x082,
+    0x081,
+    0x0C0,
+    0x10C,
+    0x108,
+    0x104,
+    0x140,
+    0x230,
+    0x220,
+    0x210,
+    0x240,
+    0x43F,
+    0x42A,
+    0x415,
+    0x440,
+    0x836,
+    0x82D,
+    0x81B,
+    0x840,
+    0xFF9,
+    0xFE7,
+    0xFDE,
+    0xF80,
+];
+
+fn pattern(s: u32) -> u32
+    requires { ⌜ s < 4096 ⌝ }
+    ensures { λ r. ⌜ IsPattern s r ⌝ }
+{
+    PATTERNS[s as usize]
+}
+
+// The codeword nearest to a word and its distance, 0 to 3. Refuses 4, then 7.
+pub fn correct(word: u32) -> CorrectAnswer
+    ensures { λ r. ⌜ Corrects word (correctAnswer r) ⌝ }
+{
+    match golay::syndrome(word) {
+        SyndromeAnswer::Refused(reason) => CorrectAnswer::Refused(reason),
+        SyndromeAnswer::Accepted(s) => {
+            let error = pattern(s.0);
+            let distance = golay::ones(error);
+            if distance == 4 {
+                return CorrectAnswer::Refused(Refusal::DistanceFour);
+            }
+            CorrectAnswer::Accepted(Codeword(word ^ error), distance)
+        }
+    }
+}
+
+// Writes the six codewords at distance four from a word of syndrome s. Each differs from the word by an error of four ones: its highest place,
+// and the pattern of what syndrome is left. Going down the places, the codeword found at one stands before all that follow if the word has a
+// one there, and after them if not: so the slots fill from both ends.
+fn fill(word: u32, s: u32, slots: &mut [u32])
+    requires { ⌜ AtFour word s ⌝ }
+    requires { ⌜ length (now slots) ≡ 6 ⌝ }
+    ensures { λ r. ⌜ Candidates word (now (slots .exit)) ⌝ }
+{
+    let mut first: usize = 0;
+    let mut end: usize = 6;
+    let mut i: u32 = 24;
+    while i > 0 {
+        i -= 1;
+        let place: u32 = 1 << i;
+        let rest = pattern(s ^ SYNDROMES[i as usize]);
+        if rest < place {
+            let candidate = word ^ (place + rest);
+            if (word >> i) % 2 == 1 {
+                slots[first] = candidate;
+                first += 1;
+            } else {
+                end -= 1;
+                slots[end] = candidate;
+            }
+        }
+    }
+}
+
+// Writes the six codewords at distance four from a word, in ascending order, to six slots. Refuses 1, then 4, then 8, and then no slot changes.
+pub fn candidates(word: u32, slots: &mut [u32]) -> CandidatesAnswer
+    ensures { λ r. ⌜ WritesCandidates word (now (slots .entry)) (candidatesAnswer r) (now (slots .exit)) ⌝ }
+{
+    if slots.len() != 6 {
+        return CandidatesAnswer::Refused(Refusal::WrongLength);
+    }
+    match golay::syndrome(word) {
+        SyndromeAnswer::Refused(reason) => CandidatesAnswer::Refused(reason),
+        SyndromeAnswer::Accepted(s) => {
+            if golay::ones(pattern(s.0)) != 4 {
+                return CandidatesAnswer::Refused(Refusal::NotDistanceFour);
+            }
+            fill(word, s.0, slots);
+            CandidatesAnswer::Accepted
+        }
+    }
+}

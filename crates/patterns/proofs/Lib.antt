@@ -1,0 +1,7 @@
+pub mod Table
+pub mod Words
+pub mod Lookup
+pub mod Scan
+pub mod Patterns
+pub mod Nearest
+pub mod Fours

@@ -1,0 +1,122 @@
+#!/usr/bin/env python3
+"""The table of 4,096 error patterns of document 01, "Hard correction": for each syndrome the pattern with fewest ones, and of equals the
+smallest as a number.
+
+    tools/patterns.py rt        prints crates/hard/src/table.rt
+    tools/patterns.py antt      prints crates/patterns/proofs/Table.antt
+    tools/patterns.py --check   compares both files with what it would print; exit 1 where one differs
+
+Both are printed in the layout of `rt fmt`. Nothing trusts this script: crates/patterns proves the rule of the list that it prints, and
+crates/hard that the source has that list.
+"""
+
+import itertools
+import pathlib
+import sys
+
+POSITIONS = 24
+SYNDROMES = 4_096
+MOST_ONES = 4
+
+# a times b for the characters 0, 1, w, v, numbered 0 to 3
+PRODUCTS = ((0, 0, 0, 0), (0, 1, 2, 3), (0, 2, 3, 1), (0, 3, 1, 2))
+W, V = 2, 3
+
+ROOT = pathlib.Path(__file__).resolve().parent.parent
+
+
+def columns(word):
+    """The six columns of a word, each four bits from top to bottom; position 1 is worth 2^23."""
+    bits = [word >> (POSITIONS - position) & 1 for position in range(1, POSITIONS + 1)]
+    return [bits[start:start + 4] for start in range(0, POSITIONS, 4)]
+
+
+def projection(column):
+    total = 0
+    for character, bit in enumerate(column):
+        total ^= PRODUCTS[character][bit]
+    return total
+
+
+def syndrome(word):
+    parities = [sum(column) % 2 for column in columns(word)]
+    top_row = sum(column[0] for column in columns(word)) % 2
+    a, b, c, x4, x5, x6 = [projection(column) for column in columns(word)]
+    number = 0
+    for parity in parities[1:] + [top_row]:
+        number = number << 1 | (parity ^ parities[0])
+    for character in (
+        x4 ^ a ^ b ^ c,
+        x5 ^ PRODUCTS[a][V] ^ PRODUCTS[b][W] ^ c,
+        x6 ^ PRODUCTS[a][W] ^ PRODUCTS[b][V] ^ c,
+    ):
+        number = number << 2 | character
+    return number
+
+
+def words_of(ones):
+    """All words with so many ones, in ascending order."""
+    return sorted(sum(1 << place for place in places) for places in itertools.combinations(range(POSITIONS), ones))
+
+
+def patterns():
+    table = {}
+    for ones in range(MOST_ONES + 1):
+        for word in words_of(ones):
+            table.setdefault(syndrome(word), word)
+    return [table[s] for s in range(SYNDROMES)]
+
+
+def rt(table):
+    lines = [
+        "// The error pattern of each syndrome. Printed by tools/patterns.py.",
+        f"pub const PATTERNS: [u32; {SYNDROMES:_}] = [",
+    ]
+    lines += [f"    0x{pattern:06X}," for pattern in table]
+    lines += ["];"]
+    return "\n".join(lines) + "\n"
+
+
+def antt(table):
+    rows = [table[start:start + 8] for start in range(0, SYNDROMES, 8)]
+    lines = [
+        "-- The error pattern of each syndrome, from syndrome 0 up. Printed by tools/patterns.py.",
+        "-- Assumes nothing.",
+        "use mathlib.Core.List.{List, [], _∷_}",
+        "use Prim.Native.Nat.{ℕ}",
+        "",
+        "unfoldable pub table : List ℕ",
+        "table =",
+    ]
+    lines += ["    " + " ∷ ".join(f"0x{pattern:06X}" for pattern in row) + " ∷" for row in rows]
+    lines += ["    []"]
+    return "\n".join(lines) + "\n"
+
+
+FILES = {
+    "rt": ("crates/hard/src/table.rt", rt),
+    "antt": ("crates/patterns/proofs/Table.antt", antt),
+}
+
+
+def check():
+    table = patterns()
+    wrong = [path for path, text in FILES.values() if (ROOT / path).read_text(encoding="utf-8") != text(table)]
+    for path in wrong:
+        print(f"{path} is not what tools/patterns.py prints", file=sys.stderr)
+    return 1 if wrong else 0
+
+
+def main(words):
+    if words == ["--check"]:
+        return check()
+    if len(words) == 1 and words[0] in FILES:
+        sys.stdout.reconfigure(encoding="utf-8")
+        sys.stdout.write(FILES[words[0]][1](patterns()))
+        return 0
+    print(__doc__.strip(), file=sys.stderr)
+    return 2
+
+
+if __name__ == "__main__":
+    sys.exit(main(sys.argv[1:]))
