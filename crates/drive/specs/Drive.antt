@@ -1,7 +1,10 @@
 -- What a call for C hands back: it returns 0 where it answers, else the refusal number, and writes its outputs only where it answers.
 use mathlib.Core.Path.{_≡_}
+use mathlib.Core.List.{List}
 use Prim.Native.Nat.{ℕ}
 use Rattle.golay.specs.Answers.{Answer, accepted, refused}
+use Rattle.hard.specs.Answers.{Correction}
+use Rattle.hard.specs.Calls.{WritesCandidates}
 
 module _ {A : Type 0} where
   abbrev pub returned : Answer A → ℕ
@@ -17,6 +20,22 @@ pub record HandsBack {A M : Type 0} (answer : Answer A) (made : A → M) (before
   pub status-is : status ≡ returned answer
   pub output-is : after ≡ output made answer before
 
--- the outputs that hold a number as it is
-abbrev pub itself : ℕ → ℕ
+-- where a promise allows an answer, and not a formula gives it: the call hands back an answer that is allowed
+pub record HandsBackOne {A M : Type 0} (Allowed : Answer A → Type 0) (made : A → M) (before after : M) (status : ℕ) : Type 0 where
+  pub answer : Answer A
+  pub allowed : Allowed answer
+  pub handed : HandsBack answer made before after status
+
+-- outputs that hold the values as they are
+abbrev pub itself : {A : Type 0} → A → A
 itself x = x
+
+-- two outputs as one value
+abbrev pub correction : ℕ → ℕ → Correction
+correction codeword distance = record { codeword = codeword; distance = distance }
+
+-- the candidate call: its status, and what the slots hold
+pub record HandsBackCandidates (word : ℕ) (before after : List ℕ) (status : ℕ) : Type 0 where
+  pub answer : Answer (Unit {0})
+  pub writes : WritesCandidates word before answer after
+  pub status-is : status ≡ returned answer

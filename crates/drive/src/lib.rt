@@ -1,13 +1,16 @@
 // The entry points for C. Each is a thin call of a room below; include/garthumor.h declares them.
 ghost use Rattle.golay.specs.Bytes.{bytesOf};
 ghost use Rattle.golay.specs.Calls.{encodeRule, readRule, syndromeRule, writeBytesRule, readBytesRule};
-ghost use Rattle.drive.specs.Drive.{HandsBack, itself};
+ghost use Rattle.hard.specs.Calls.{Corrects};
+ghost use Rattle.drive.specs.Drive.{HandsBack, HandsBackOne, HandsBackCandidates, itself, correction};
 use golay::kinds::EncodeAnswer;
 use golay::kinds::Message;
 use golay::kinds::ReadAnswer;
 use golay::kinds::ReadBytesAnswer;
 use golay::kinds::SyndromeAnswer;
 use golay::kinds::WriteBytesAnswer;
+use hard::kinds::CandidatesAnswer;
+use hard::kinds::CorrectAnswer;
 
 #[no_mangle]
 pub extern "C" fn garthumor_encode(message: u32, codeword: &mut u32) -> u8
@@ -45,6 +48,30 @@ pub extern "C" fn garthumor_syndrome(word: u32, syndrome: &mut u32) -> u8
             0
         }
         SyndromeAnswer::Refused(reason) => golay::refusal_number(reason),
+    }
+}
+
+#[no_mangle]
+pub extern "C" fn garthumor_correct(word: u32, codeword: &mut u32, distance: &mut u32) -> u8
+    ensures { λ r. ⌜ HandsBackOne (Corrects word) itself (correction (now (codeword .entry)) (now (distance .entry))) (correction (now (codeword .exit)) (now (distance .exit))) r ⌝ }
+{
+    match hard::correct(word) {
+        CorrectAnswer::Accepted(c, d) => {
+            *codeword = c.0;
+            *distance = d;
+            0
+        }
+        CorrectAnswer::Refused(reason) => golay::refusal_number(reason),
+    }
+}
+
+#[no_mangle]
+pub extern "C" fn garthumor_candidates(word: u32, slots: &mut [u32]) -> u8
+    ensures { λ r. ⌜ HandsBackCandidates word (now (slots .entry)) (now (slots .exit)) r ⌝ }
+{
+    match hard::candidates(word, slots) {
+        CandidatesAnswer::Accepted => 0,
+        CandidatesAnswer::Refused(reason) => golay::refusal_number(reason),
     }
 }
 
