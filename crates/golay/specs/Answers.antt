@@ -1,4 +1,5 @@
 -- An answer in the words of document 01, for every call: values, or the number of a refusal. Each call's own answer is read as one here.
+use mathlib.Core.Path.{_≡_}
 use mathlib.Core.Bool.{Bool, true, false}
 use Prim.Native.Nat.{ℕ}
 use Rattle.golay.specs.declared.kinds.Refusal.{Refusal}
@@ -26,6 +27,11 @@ module _ {A : Type 0} where
   abbrev pub refuse : Refusal → Bool → Answer A → Answer A
   refuse reason true next = refused (number reason)
   refuse reason false next = next
+
+  -- the same where what comes next is not a formula but says which answers it allows
+  abbrev pub Refuse : Refusal → Bool → (Answer A → Type 0) → Answer A → Type 0
+  Refuse reason true Next answer = answer ≡ refused (number reason)
+  Refuse reason false Next answer = Next answer
 
   -- what lent memory holds after the call: "all lent memory keeps its contents" on a refusal
   abbrev pub lent : {M : Type 0} → Answer A → M → M → M
