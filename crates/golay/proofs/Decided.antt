@@ -1,6 +1,7 @@
 -- Two answers that a promise allows are equal: each call's answer can be made again from the number and the values that it stands for.
 -- Assumes nothing.
 use mathlib.Core.Path.{_≡_, refl, sym, ap, _∙_}
+use mathlib.Core.Bool.{Bool, true, false}
 use mathlib.Core.List.{List, [], _∷_}
 use Prim.Native.Nat.{ℕ, _-_}
 use lib.ListN.{getD}
@@ -19,13 +20,23 @@ use Rattle.golay.specs.declared.kinds.WriteBytesAnswer.the-variants as w
 use Rattle.golay.specs.declared.kinds.ReadBytesAnswer.{ReadBytesAnswer}
 use Rattle.golay.specs.declared.kinds.ReadBytesAnswer.the-variants as bytes
 use Rattle.golay.specs.Refusals.{number}
-use Rattle.golay.specs.Answers.{Answer, accepted, refused, lent, encodeAnswer, readAnswer, syndromeAnswer, distanceAnswer, writeBytesAnswer, readBytesAnswer}
+use Rattle.golay.specs.Answers.{Answer, accepted, refused, Refuse, lent, encodeAnswer, readAnswer, syndromeAnswer, distanceAnswer, writeBytesAnswer, readBytesAnswer}
 use Rattle.golay.specs.Bytes.{bytesOf}
 use Rattle.golay.specs.Calls.{encodeRule, readRule, syndromeRule, distanceRule, writeBytesRule, readBytesRule, WritesBytes}
 
 -- the law for all calls: where g makes an answer again from what f says of it, two answers of which f says the same are equal
 pub said-once : {A B : Type 0} (f : A → B) (g : B → A) → ((a : A) → g (f a) ≡ a) → {b : B} (x y : A) → f x ≡ b → f y ≡ b → x ≡ y
 said-once f g back x y p q = sym (back x) ∙ ap g (p ∙ sym q) ∙ back y
+
+-- a refusal in front of a relation that allows one answer leaves one answer
+pub refuse-once :
+    {A : Type 0} (r : Refusal) (test : Bool) (P : Answer A → Type 0) {a b : Answer A}
+    → (P a → P b → a ≡ b)
+    → Refuse r test P a
+    → Refuse r test P b
+    → a ≡ b
+refuse-once r true P f p q = p ∙ sym q
+refuse-once r false P f p q = f p q
 
 -- the reasons by their numbers, which start at 1
 abbrev reasons : List Refusal

@@ -2,16 +2,16 @@
 -- whose highest place is at most n, the one with place n itself makes a codeword below all the others if the word has a one there, and above
 -- them if not.
 -- Assumes nothing.
-use mathlib.Core.Path.{_≡_, refl, sym, ap, ap₂, _∙_, subst}
+use mathlib.Core.Path.{_≡_, refl, sym, ap, _∙_, subst}
 use mathlib.Core.Logic.{_⊎_, inl, inr, ⊎-elim}
 use mathlib.Core.Bool.{Bool, true, false, not}
 use mathlib.Core.List.{List, [], _∷_, _++_, List·Memᴰ·head, List·Memᴰ·tail, List·Memᴰ·not-nil, List·Memᴰ·cases-cons, Memᴰ·cast, Memᴰ·append-left, Memᴰ·append-right}
-use Prim.Native.Nat.{ℕ, zero, suc, _+_, _*_, _/_, _%_, _^_, _≤_, _<_}
+use Prim.Native.Nat.{ℕ, zero, suc, _+_, _/_, _%_, _^_, _<_}
 use native.Mathlib.Nat.{div-eq-of-lt, one-mul, eq-or-lt-of-le, le-of-suc-le-suc, not-suc-le-zero}
 use native.Mathlib.Omega.{arith}
 use lib.Dec.{T, ltb→lt, eqb, eqb→eq}
 use lib.Pow.{high, shr-mono}
-use lib.Bits.{bitXor, bitAnd, xor-shr, xor-zero-r, xor-lt, xor-add-and, and-mask}
+use lib.Bits.{bitXor, xor-shr, xor-zero-r, xor-lt, xor-add-and, and-mask}
 use lib.ListN.{length, length-append}
 use Rattle.binary.specs.Words.{ones}
 use Rattle.binary.proofs.Xor.{two-cases, bit-lt, xor-back}

@@ -3,3 +3,5 @@ pub mod Calls
 pub mod Ascending
 pub mod Arrange
 pub mod Slots
+pub mod Decided
+pub mod Meaning

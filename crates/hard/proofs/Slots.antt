@@ -7,7 +7,7 @@ use Prim.Native.Nat.{ℕ, suc, _+_, _-_, _*_, _/_, _%_, _^_, _≤_, _<_}
 use native.Mathlib.Numerals.{add-one}
 use native.Mathlib.Nat.{one-mul, mod-eq-of-lt, add-zero, zero-add, le-refl}
 use native.Mathlib.Omega.{arith}
-use lib.Dec.{T, not-T, ltb→lt, lt→ltb, eqb, eqb→eq, lit≤}
+use lib.Dec.{T, not-T, ltb→lt, lt→ltb, eqb→eq}
 use lib.Pow.{pow-lt}
 use lib.Bits.{bitXor, xor-lt}
 use lib.ListN.{getD, length, take, drop, set, length-set, take-append-drop, drop-of-length-le}

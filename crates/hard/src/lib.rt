@@ -3,9 +3,7 @@
 ghost use mathlib.Core.Path.{_≡_};
 ghost use Prim.Native.Nat.{_<_};
 ghost use lib.ListN.{length};
-ghost use Rattle.binary.specs.Words.{ones};
-ghost use Rattle.code.specs.Code.{words, syndromeOf};
-ghost use Rattle.patterns.specs.Patterns.{IsPattern};
+ghost use Rattle.patterns.specs.Patterns.{IsPattern, ArePatterns};
 ghost use Rattle.hard.specs.Answers.{correctAnswer, candidatesAnswer};
 ghost use Rattle.hard.specs.Calls.{Corrects, WritesCandidates};
 ghost use Rattle.hard.specs.Candidates.{Candidates, AtFour};
@@ -48,11 +46,12 @@ const SYNDROMES: [u32; 24] = [
     0xF80,
 ];
 
-fn pattern(s: u32) -> u32
+fn pattern(patterns: &[u32], s: u32) -> u32
+    requires { ⌜ ArePatterns (now patterns) ⌝ }
     requires { ⌜ s < 4096 ⌝ }
     ensures { λ r. ⌜ IsPattern s r ⌝ }
 {
-    PATTERNS[s as usize]
+    patterns[s as usize]
 }
 
 // The codeword nearest to a word and its distance, 0 to 3. Refuses 4, then 7.
@@ -62,7 +61,8 @@ pub fn correct(word: u32) -> CorrectAnswer
     match golay::syndrome(word) {
         SyndromeAnswer::Refused(reason) => CorrectAnswer::Refused(reason),
         SyndromeAnswer::Accepted(s) => {
-            let error = pattern(s.0);
+            let patterns = PATTERNS;
+            let error = pattern(&patterns, s.0);
             let distance = golay::ones(error);
             if distance == 4 {
                 return CorrectAnswer::Refused(Refusal::DistanceFour);
@@ -75,7 +75,8 @@ pub fn correct(word: u32) -> CorrectAnswer
 // Writes the six codewords at distance four from a word of syndrome s. Each differs from the word by an error of four ones: its highest place,
 // and the pattern of what syndrome is left. Going down the places, the codeword found at one stands before all that follow if the word has a
 // one there, and after them if not: so the slots fill from both ends.
-fn fill(word: u32, s: u32, slots: &mut [u32])
+fn fill(patterns: &[u32], word: u32, s: u32, slots: &mut [u32])
+    requires { ⌜ ArePatterns (now patterns) ⌝ }
     requires { ⌜ AtFour word s ⌝ }
     requires { ⌜ length (now slots) ≡ 6 ⌝ }
     ensures { λ r. ⌜ Candidates word (now (slots .exit)) ⌝ }
@@ -86,7 +87,7 @@ fn fill(word: u32, s: u32, slots: &mut [u32])
     while i > 0 {
         i -= 1;
         let place: u32 = 1 << i;
-        let rest = pattern(s ^ SYNDROMES[i as usize]);
+        let rest = pattern(patterns, s ^ SYNDROMES[i as usize]);
         if rest < place {
             let candidate = word ^ (place + rest);
             if (word >> i) % 2 == 1 {
@@ -110,10 +111,12 @@ pub fn candidates(word: u32, slots: &mut [u32]) -> CandidatesAnswer
     match golay::syndrome(word) {
         SyndromeAnswer::Refused(reason) => CandidatesAnswer::Refused(reason),
         SyndromeAnswer::Accepted(s) => {
-            if golay::ones(pattern(s.0)) != 4 {
+            // Each use of a constant table builds it anew, so one is lent to all that read it.
+            let patterns = PATTERNS;
+            if golay::ones(pattern(&patterns, s.0)) != 4 {
                 return CandidatesAnswer::Refused(Refusal::NotDistanceFour);
             }
-            fill(word, s.0, slots);
+            fill(&patterns, word, s.0, slots);
             CandidatesAnswer::Accepted
         }
     }

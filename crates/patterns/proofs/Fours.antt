@@ -1,21 +1,20 @@
 -- The words with four ones of a syndrome at distance four. Taking off its highest place leaves a word of three ones, which is the pattern of
 -- what syndrome is left: so each such word is found at its highest place, and a computed test counts six of them.
 -- Assumes nothing.
-use mathlib.Core.Path.{_≡_, refl, sym, ap, ap₂, _∙_, subst}
+use mathlib.Core.Path.{_≡_, refl, sym, ap, _∙_, subst}
 use mathlib.Core.Bool.{Bool, true, false, _&&_}
-use mathlib.Core.List.{List}
 use Prim.Native.Nat.{ℕ, zero, suc, _+_, _*_, _/_, _%_, _^_, _≤_, _<_}
 use native.Mathlib.Nat.{mod-lt, div-add-mod', one-mul, pow-suc}
 use native.Mathlib.Omega.{arith}
-use lib.Dec.{T, ltb, ltb→lt, lt→ltb, eqb, eqb→eq, eqb-refl, lit<}
+use lib.Dec.{T, ltb, ltb→lt, lt→ltb, eqb, eqb→eq, lit<}
 use lib.Pow.{pow-mono}
 use lib.Bits.{bitXor, xor-comm, xor-shifted, xor-lt}
 use lib.ListN.{getD}
-use Rattle.binary.specs.Words.{ones, rowSum}
+use Rattle.binary.specs.Words.{ones}
 use Rattle.binary.proofs.Tests.{and-left, and-right, all, below}
 use Rattle.binary.proofs.Xor.{xor-back}
 use Rattle.code.specs.Code.{words, syndromeOf}
-use Rattle.code.proofs.Syndromes.{syndrome-add, syndrome-lt, syndromeRows, syndrome-rows}
+use Rattle.code.proofs.Syndromes.{syndrome-add, syndrome-lt, syndromeRows}
 use Rattle.patterns.specs.Patterns.{IsPattern}
 use Rattle.patterns.proofs.Table.{table}
 use Rattle.patterns.proofs.Lookup.{Tree, build, find, find-build}

@@ -1,7 +1,7 @@
 -- The pattern of a word's syndrome leads to a nearest codeword, so its ones are the least distance to any codeword; and words of one syndrome
 -- that have fewer than 8 ones between them are one word, since codewords differ in at least 8 positions.
 -- Assumes nothing.
-use mathlib.Core.Path.{_≡_, refl, sym, ap, ap₂, _∙_, subst}
+use mathlib.Core.Path.{_≡_, refl, sym, ap, _∙_}
 use Prim.Native.Nat.{ℕ, zero, suc, _+_, _≤_, _<_}
 use native.Mathlib.Omega.{arith}
 use lib.Dec.{T}
@@ -51,7 +51,7 @@ module _ (word p : ℕ) (h : word < words) (r : IsPattern (syndromeOf word) p) w
     least = λ c g t. r .fewest (bitXor word c) (xor-lt 24 word c h g) (error-syndrome word c t);
   }
 
-  only-within : (c : ℕ) → c < words → T (isCodeword c) → distance 24 word c + ones 24 p < 8 → c ≡ bitXor word p
+  pub only-within : (c : ℕ) → c < words → T (isCodeword c) → distance 24 word c + ones 24 p < 8 → c ≡ bitXor word p
   only-within c g t l =
       sym (xor-back word c)
       ∙ ap (bitXor word)

@@ -4,17 +4,17 @@
 use mathlib.Core.Path.{_≡_, refl, sym, ap, _∙_, subst}
 use mathlib.Core.Logic.{⊎-elim}
 use mathlib.Core.Bool.{Bool, _&&_}
-use mathlib.Core.List.{List, map}
-use Prim.Native.Nat.{ℕ, suc, _+_, _*_, _^_, _≤_, _<_}
+use mathlib.Core.List.{map}
+use Prim.Native.Nat.{ℕ, _+_, _*_, _^_, _≤_, _<_}
 use native.Mathlib.Nat.{le-antisymm}
 use native.Mathlib.Omega.{arith}
 use lib.Dec.{T, leb, leb→le, ltb, ltb→lt, eqb, eqb→eq}
-use lib.ListN.{getD, length, List·getD-map}
+use lib.ListN.{getD, List·getD-map}
 use Rattle.binary.specs.Words.{ones, rowSum}
 use Rattle.binary.proofs.Tests.{and-left, and-right, every, at}
 use Rattle.code.specs.Code.{words, syndromeOf}
 use Rattle.code.proofs.Syndromes.{syndromeRows, syndrome-rows}
-use Rattle.patterns.specs.Patterns.{IsPattern}
+use Rattle.patterns.specs.Patterns.{IsPattern, ArePatterns}
 use Rattle.patterns.proofs.Table.{table}
 use Rattle.patterns.proofs.Words.{le-or-lt}
 use Rattle.patterns.proofs.Lookup.{Tree, build, find, find-build}
@@ -87,6 +87,10 @@ module _ (s : ℕ) (h : s < 2 ^ 12) where
     fewest = λ e g z. no-fewer (ones 24 x) x (ones 24 e) e (tests .1) g (key-least e g z);
     smallest = λ e g z. no-smaller (ones 24 x) x (ones 24 e) e (key-least e g z);
   }
+
+pub table-patterns : ArePatterns table
+unfolding table
+table-patterns = record { size = refl; each = table-pattern }
 
 pub pattern-unique : {s x y : ℕ} → IsPattern s x → IsPattern s y → x ≡ y
 pattern-unique {s} {x} {y} p q =

@@ -1,7 +1,7 @@
 -- A test of every word with at most b ones, at its row sum and its key: a recursion over the positions that carries both, so that no word is
 -- taken apart, tied to all such words by one induction. A word's key puts its ones, each worth `unit`, before the word itself.
 -- Assumes nothing.
-use mathlib.Core.Path.{_≡_, refl, sym, ap, ap₂, _∙_, subst, subst₂}
+use mathlib.Core.Path.{_≡_, refl, sym, ap, _∙_, subst, subst₂}
 use mathlib.Core.Bool.{Bool, _&&_}
 use mathlib.Core.List.{List, [], _∷_}
 use Prim.Native.Nat.{ℕ, zero, suc, _+_, _*_, _/_, _%_, _^_, _≤_, _<_}

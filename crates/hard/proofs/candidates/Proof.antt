@@ -2,15 +2,11 @@
 -- Assumes nothing.
 use denote.Ref.{now}
 use borrow.Author.Needs.{needs}
+use Rattle.patterns.proofs.Table.{table}
+use Rattle.patterns.proofs.Patterns.{table-patterns}
 use Rattle.hard.proofs.Calls.{syndrome-accepted, syndrome-refused, within-lt, found, at-four, writes-length, writes-above, writes-other, writes-four}
 use Rattle.hard.proofs.candidates.Statement.{statement}
 use Rattle.hard.proofs.candidates.Tie as tie
-use Rattle.hard.proofs.candidates.Reads as reads
-use Rattle.hard.proofs.candidates.Lts as lts
-use Rattle.golay.proofs.ones.Reads as ones-reads
-use Rattle.golay.proofs.syndrome.Reads as syndrome-reads
-use Rattle.hard.proofs.fill.Reads as fill-reads
-use Rattle.hard.proofs.pattern.Reads as pattern-reads
 
 returns : tie.Need-returns
 returns c = writes-length (c .before .before .args .word) (now (c .before .before .args .slots)) (c .if1 .taken)
@@ -24,10 +20,16 @@ enum-known-reason c = search needs
 enum-known-s : tie.Need-enum-known-s
 enum-known-s c = search needs
 
+slice-aggregate-pattern : tie.Need-slice-aggregate-pattern
+slice-aggregate-pattern c = search needs
+
 pattern-requires : tie.Need-pattern-requires
+unfolding table
 pattern-requires c κs =
-    let called = c .before .before .before in
-    within-lt (syndrome-accepted (called .before .before .before .args .word) (called .syndrome .ensures) (c .before .s .given .1))
+    let matched = c .before .before in
+    let called = matched .before .before in
+    let start = called .before .before .before in
+    (table-patterns, within-lt (syndrome-accepted (start .args .word) (called .syndrome .ensures) (matched .s .given .1)))
 
 ones-requires : tie.Need-ones-requires
 ones-requires c κs = search needs
@@ -35,19 +37,25 @@ ones-requires c κs = search needs
 returns-2 : tie.Need-returns-2
 returns-2 c =
     let read = c .before .before in
-    let called = read .before .before .before .before in
+    let matched = read .before .before .before in
+    let called = matched .before .before in
     let start = called .before .before .before in
-    let w = syndrome-accepted (start .args .word) (called .syndrome .ensures) (read .before .before .s .given .1) in
+    let w = syndrome-accepted (start .args .word) (called .syndrome .ensures) (matched .s .given .1) in
     writes-other (now (start .args .slots)) (called .before .if1 .left) (found w (read .pattern .ensures) (c .before .ones .ensures)) (c .if2 .taken)
 
+slice-aggregate-fill : tie.Need-slice-aggregate-fill
+slice-aggregate-fill c = search needs
+
 fill-requires : tie.Need-fill-requires
+unfolding table
 fill-requires c κs =
-    let counted = c .before .before in
+    let counted = c .before .before .before in
     let read = counted .before in
-    let called = read .before .before .before .before in
+    let matched = read .before .before .before in
+    let called = matched .before .before in
     let start = called .before .before .before in
-    let w = syndrome-accepted (start .args .word) (called .syndrome .ensures) (read .before .before .s .given .1) in
-    (at-four w (read .pattern .ensures) (counted .ones .ensures) (c .before .if2 .left), called .before .if1 .left)
+    let w = syndrome-accepted (start .args .word) (called .syndrome .ensures) (matched .s .given .1) in
+    (table-patterns, (at-four w (read .pattern .ensures) (counted .ones .ensures) (c .before .before .if2 .left), called .before .if1 .left))
 
 returns-3 : tie.Need-returns-3
 returns-3 c =
@@ -62,13 +70,14 @@ same-length c = search needs
 returns-4 : tie.Need-returns-4
 returns-4 c =
     let filled = c .before .before in
-    let counted = filled .before .before .before in
-    let read = counted .before in
-    let called = read .before .before .before .before in
+    let four = filled .before .before .before in
+    let read = four .before .before in
+    let matched = read .before .before .before in
+    let called = matched .before .before in
     let start = called .before .before .before in
-    let w = syndrome-accepted (start .args .word) (called .syndrome .ensures) (read .before .before .s .given .1) in
-    writes-four (now (start .args .slots)) (called .before .if1 .left) (found w (read .pattern .ensures) (counted .ones .ensures))
-    (filled .before .before .if2 .left) (filled .fill .ensures)
+    let w = syndrome-accepted (start .args .word) (called .syndrome .ensures) (matched .s .given .1) in
+    writes-four (now (start .args .slots)) (called .before .if1 .left) (found w (read .pattern .ensures) (four .before .ones .ensures))
+    (four .if2 .left) (filled .fill .ensures)
 
 pub candidates-spec : {M : Type 1} → statement M
 candidates-spec =
@@ -78,9 +87,11 @@ candidates-spec =
     syndrome-requires
     enum-known-reason
     enum-known-s
+    slice-aggregate-pattern
     pattern-requires
     ones-requires
     returns-2
+    slice-aggregate-fill
     fill-requires
     returns-3
     same-length

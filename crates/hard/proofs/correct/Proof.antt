@@ -1,6 +1,8 @@
 -- `hard::correct` meets its contract: the pattern of golay's syndrome, and its ones, are what the rule goes by.
 -- Assumes nothing.
 use borrow.Author.Needs.{needs}
+use Rattle.patterns.proofs.Table.{table}
+use Rattle.patterns.proofs.Patterns.{table-patterns}
 use Rattle.hard.proofs.Calls.{syndrome-accepted, syndrome-refused, within-lt, found, corrects-above, corrects-four, corrects-nearer}
 use Rattle.hard.proofs.correct.Statement.{statement}
 use Rattle.hard.proofs.correct.Tie as tie
@@ -14,10 +16,15 @@ enum-known-reason c = search needs
 enum-known-s : tie.Need-enum-known-s
 enum-known-s c = search needs
 
+slice-aggregate-pattern : tie.Need-slice-aggregate-pattern
+slice-aggregate-pattern c = search needs
+
 pattern-requires : tie.Need-pattern-requires
+unfolding table
 pattern-requires c κs =
-    let called = c .before .before .before in
-    within-lt (syndrome-accepted (called .before .args .word) (called .syndrome .ensures) (c .before .s .given .1))
+    let matched = c .before .before in
+    let called = matched .before .before in
+    (table-patterns, within-lt (syndrome-accepted (called .before .args .word) (called .syndrome .ensures) (matched .s .given .1)))
 
 ones-requires : tie.Need-ones-requires
 ones-requires c κs = search needs
@@ -25,8 +32,9 @@ ones-requires c κs = search needs
 returns : tie.Need-returns
 returns c =
     let read = c .before .before in
-    let called = read .before .before .before .before in
-    let w = syndrome-accepted (called .before .args .word) (called .syndrome .ensures) (read .before .before .s .given .1) in
+    let matched = read .before .before .before in
+    let called = matched .before .before in
+    let w = syndrome-accepted (called .before .args .word) (called .syndrome .ensures) (matched .s .given .1) in
     corrects-four (found w (read .pattern .ensures) (c .before .ones .ensures)) (c .if1 .taken)
 
 returns-2 : tie.Need-returns-2
@@ -37,8 +45,9 @@ returns-2 c =
 returns-3 : tie.Need-returns-3
 returns-3 c =
     let read = c .before .before in
-    let called = read .before .before .before .before in
-    let w = syndrome-accepted (called .before .args .word) (called .syndrome .ensures) (read .before .before .s .given .1) in
+    let matched = read .before .before .before in
+    let called = matched .before .before in
+    let w = syndrome-accepted (called .before .args .word) (called .syndrome .ensures) (matched .s .given .1) in
     corrects-nearer (found w (read .pattern .ensures) (c .before .ones .ensures)) (c .if1 .left)
 
 pub correct-spec : {M : Type 1} → statement M
@@ -48,6 +57,7 @@ correct-spec =
     syndrome-requires
     enum-known-reason
     enum-known-s
+    slice-aggregate-pattern
     pattern-requires
     ones-requires
     returns

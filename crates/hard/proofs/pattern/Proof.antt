@@ -1,20 +1,17 @@
--- `hard::pattern` meets its contract: the source's table is the one whose rule `patterns` proves.
+-- `hard::pattern` meets its contract: the table that it is lent holds the pattern.
 -- Assumes nothing.
 use borrow.Author.Needs.{needs}
-use Rattle.patterns.proofs.Table.{table}
-use Rattle.patterns.proofs.Patterns.{table-pattern}
 use Rattle.hard.proofs.pattern.Statement.{statement}
 use Rattle.hard.proofs.pattern.Tie as tie
 
 mul-result : tie.Need-mul-result
 mul-result c = search needs
 
-array-read-result : tie.Need-array-read-result
-array-read-result c = search needs
+shared-slice-read-result : tie.Need-shared-slice-read-result
+shared-slice-read-result c = search needs
 
 returns : tie.Need-returns
-unfolding table
-returns c = table-pattern (c .args .s) (c .pre)
+returns c = c .before .pre .0 .each (c .before .args .s) (c .before .pre .1)
 
 pub pattern-spec : {M : Type 1} → statement M
-pattern-spec = tie.close (tie.spec mul-result array-read-result returns)
+pattern-spec = tie.close (tie.spec mul-result shared-slice-read-result returns)
