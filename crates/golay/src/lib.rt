@@ -11,7 +11,7 @@ ghost use Rattle.golay.specs.Bytes.{wordOf};
 ghost use Rattle.golay.specs.Calls.{encodeRule, readRule, syndromeRule, distanceRule, readBytesRule, WritesBytes};
 
 pub mod kinds;
-mod rows;
+pub mod rows;
 
 use kinds::Codeword;
 use kinds::DistanceAnswer;

@@ -58,13 +58,13 @@ put-length true false c cs = omega (arith, length-append cs (c ∷ []))
 put-length false d c cs = omega arith
 
 -- the codeword that place i leads to
-pub record Placed (word s n c i : ℕ) : Type 0 where
-  pub place : i < n
-  pub leading : T (leads s i)
-  pub found : c ≡ bitXor word (four s i)
+record Placed (word s n c i : ℕ) : Type 0 where
+  place : i < n
+  leading : T (leads s i)
+  found : c ≡ bitXor word (four s i)
 
 module _ (word s : ℕ) where
-  pub arrange-has : (n i : ℕ) → i < n → T (leads s i) → bitXor word (four s i) ∈ arrange word s n
+  arrange-has : (n i : ℕ) → i < n → T (leads s i) → bitXor word (four s i) ∈ arrange word s n
   arrange-has zero i h t = absurd (not-suc-le-zero h)
   arrange-has (suc n) i h t =
       ⊎-elim
@@ -74,7 +74,7 @@ module _ (word s : ℕ) where
       (λ g. put-there (leads s n) (isSet word n) (bitXor word (four s n)) (arrange word s n) (arrange-has n i g t))
       (eq-or-lt-of-le (le-of-suc-le-suc h))
 
-  pub arrange-placed : (n c : ℕ) → c ∈ arrange word s n → (i : ℕ) × Placed word s n c i
+  arrange-placed : (n c : ℕ) → c ∈ arrange word s n → (i : ℕ) × Placed word s n c i
   arrange-placed zero c m = absurd (List·Memᴰ·not-nil m)
   arrange-placed (suc n) c m =
       ⊎-elim
@@ -82,7 +82,7 @@ module _ (word s : ℕ) where
       (λ q. let (i, r) = arrange-placed n c q in (i, record { place = omega (arith, r .place); leading = r .leading; found = r .found }))
       (put-cases (leads s n) (isSet word n) (bitXor word (four s n)) (arrange word s n) m)
 
-  pub arrange-length : (n : ℕ) → length (arrange word s n) ≡ leaders s n
+  arrange-length : (n : ℕ) → length (arrange word s n) ≡ leaders s n
   arrange-length zero = refl
   arrange-length (suc n) =
       put-length (leads s n) (isSet word n) (bitXor word (four s n)) (arrange word s n)
@@ -142,7 +142,7 @@ module _ (word s : ℕ) where
       (flip-above word n (rest s n) (four s i) (ltb→lt (rest s n) (2 ^ n) t) (four-lt s i n (p .place) (p .leading))
       (not-one (word / 2 ^ n % 2) (bit-lt (word / 2 ^ n)) o))
 
-  pub arrange-ascending : (n : ℕ) → Ascending (arrange word s n)
+  arrange-ascending : (n : ℕ) → Ascending (arrange word s n)
   arrange-ascending zero = tt
   arrange-ascending (suc n) =
       put-ascending (leads s n) (isSet word n) (bitXor word (four s n)) (arrange word s n) (arrange-ascending n) (below-all n) (above-all n)

@@ -71,11 +71,20 @@ found {p = p} w r e = record {
 
 -- ---- what the functions return
 
+-- any word's syndrome has a pattern, also where the word is above the range
+module _ (word : ℕ) where
+  entry : ℕ
+  entry = getD table (syndromeOf word) 0
+
+  entry-rule : IsPattern (syndromeOf word) entry
+  unfolding entry
+  entry-rule = table-pattern (syndromeOf word) (syndrome-lt word)
+
 pub corrects-above : {word n : ℕ} → Above word n → Corrects word (refused n)
 corrects-above {word} a = record {
-  pattern = getD table (syndromeOf word) 0;
-  rule = table-pattern (syndromeOf word) (syndrome-lt word);
-  answered = ap refused (a .number) ∙ sym (correct-above word (getD table (syndromeOf word) 0) (a .high));
+  pattern = entry word;
+  rule = entry-rule word;
+  answered = ap refused (a .number) ∙ sym (correct-above word (entry word) (a .high));
 }
 
 module _ {word p n : ℕ} (f : Found word p n) where
@@ -104,18 +113,18 @@ at-four {p = p} w r e four = record {
 
 pub writes-length : (word : ℕ) (slots : List ℕ) → (length slots ≡ 6 → ⊥) → WritesCandidates word slots (refused 1) slots
 writes-length word slots l = record {
-  pattern = getD table (syndromeOf word) 0;
-  rule = table-pattern (syndromeOf word) (syndrome-lt word);
-  answered = sym (candidates-length word (getD table (syndromeOf word) 0) slots l);
+  pattern = entry word;
+  rule = entry-rule word;
+  answered = sym (candidates-length word (entry word) slots l);
   slots = refl;
 }
 
 module _ (slots : List ℕ) (l : length slots ≡ 6) where
   pub writes-above : {word n : ℕ} → Above word n → WritesCandidates word slots (refused n) slots
   writes-above {word} a = record {
-    pattern = getD table (syndromeOf word) 0;
-    rule = table-pattern (syndromeOf word) (syndrome-lt word);
-    answered = ap refused (a .number) ∙ sym (candidates-above word (getD table (syndromeOf word) 0) slots l (a .high));
+    pattern = entry word;
+    rule = entry-rule word;
+    answered = ap refused (a .number) ∙ sym (candidates-above word (entry word) slots l (a .high));
     slots = refl;
   }
 

@@ -116,10 +116,10 @@ module _ {word s : ℕ} {slots : List ℕ} {first end i f : ℕ} (a : AtFour wor
   this : Filled word s slots first end (suc n)
   this = subst (Filled word s slots first end) (let e : i ≡ suc (i - 1) = omega arith in e) v
 
-  pub place-lt : n < 24
+  place-lt : n < 24
   place-lt = omega (arith, v .bound)
 
-  pub place-worth : place ≡ 2 ^ n
+  place-worth : place ≡ 2 ^ n
   place-worth = ap (λ (x : ℕ). x % 2 ^ 32) (one-mul (2 ^ n)) ∙ mod-eq-of-lt (pow-lt {j = 32} (omega (arith, place-lt)))
 
   rest-read : f ≡ rest s n
@@ -164,11 +164,15 @@ begun word s slots a l = record {
   parts = rw (drop-of-length-le slots {i = 6} (omega arith)) (append-nil (arrange word s 24));
 }
 
-pub done : {word s : ℕ} {slots : List ℕ} {first end i : ℕ} → AtFour word s → Filled word s slots first end i → i ≡ 0 → Candidates word slots
-done {word} {s} {slots} {first} {end} {i} a v z =
-    let g : first ≡ end = sym (add-zero first) ∙ ap (λ (j : ℕ). first + length (arrange word s j)) (sym z) ∙ v .gap in
-    let e : slots ≡ arrange word s 24 =
-    sym (take-append-drop first slots)
-    ∙ ap₂ (λ (j k : ℕ). take first slots ++ (arrange word s j ++ drop k slots)) (sym z) g
-    ∙ v .parts in
-    subst (Candidates word) (sym e) (arrange-candidates word s a)
+module _ {word s : ℕ} {slots : List ℕ} {first end i : ℕ} (v : Filled word s slots first end i) (z : i ≡ 0) where
+  met : first ≡ end
+  met = sym (add-zero first) ∙ ap (λ (j : ℕ). first + length (arrange word s j)) (sym z) ∙ v .gap
+
+  all-filled : slots ≡ arrange word s 24
+  all-filled =
+      sym (take-append-drop first slots)
+      ∙ ap₂ (λ (j k : ℕ). take first slots ++ (arrange word s j ++ drop k slots)) (sym z) met
+      ∙ v .parts
+
+  pub done : AtFour word s → Candidates word slots
+  done a = subst (Candidates word) (sym all-filled) (arrange-candidates word s a)

@@ -14,38 +14,12 @@ mod table;
 use golay::kinds::Codeword;
 use golay::kinds::Refusal;
 use golay::kinds::SyndromeAnswer;
+use golay::rows::SYNDROMES;
 use kinds::CandidatesAnswer;
 use kinds::CorrectAnswer;
 use table::PATTERNS;
 
-// The syndromes of the single positions, from position 24 up to position 1.
-const SYNDROMES: [u32; 24] = [
-    0x083,
-    0x082,
-    0x081,
-    0x0C0,
-    0x10C,
-    0x108,
-    0x104,
-    0x140,
-    0x230,
-    0x220,
-    0x210,
-    0x240,
-    0x43F,
-    0x42A,
-    0x415,
-    0x440,
-    0x836,
-    0x82D,
-    0x81B,
-    0x840,
-    0xFF9,
-    0xFE7,
-    0xFDE,
-    0xF80,
-];
-
+// The pattern of a syndrome. The table is lent: where a constant is used it is built anew, so each call builds it once.
 fn pattern(patterns: &[u32], s: u32) -> u32
     requires { ⌜ ArePatterns (now patterns) ⌝ }
     requires { ⌜ s < 4096 ⌝ }
@@ -111,7 +85,6 @@ pub fn candidates(word: u32, slots: &mut [u32]) -> CandidatesAnswer
     match golay::syndrome(word) {
         SyndromeAnswer::Refused(reason) => CandidatesAnswer::Refused(reason),
         SyndromeAnswer::Accepted(s) => {
-            // Each use of a constant table builds it anew, so one is lent to all that read it.
             let patterns = PATTERNS;
             if golay::ones(pattern(&patterns, s.0)) != 4 {
                 return CandidatesAnswer::Refused(Refusal::NotDistanceFour);

@@ -121,7 +121,7 @@ four-syndrome s i g h t =
     ∙ ap (bitXor row) (pattern-of (bitXor s row) (xor-lt 12 s row g (row-lt i h)) .syndrome ∙ xor-comm s row)
     ∙ xor-back row s
 
--- ---- six of them, each with four ones: a test at every syndrome, in eight parts, since a declaration's steps are limited
+-- ---- six of them, each with four ones: a test at every syndrome, in four parts that are each within the steps of a declaration
 
 implies : Bool → Bool → Bool
 implies true b = b
@@ -180,12 +180,14 @@ module _ (s p : ℕ) (h : s < 2 ^ 12) (r : IsPattern s p) (o : ones 24 p ≡ 4) 
   pub six-lead : leaders s 24 ≡ 6
   six-lead = eqb→eq (leaders s 24) 6 (and-left (eqb (leaders s 24) 6) (all (threeLeft s) 24) counted)
 
-  pub four-ones : (i : ℕ) → i < 24 → T (leads s i) → ones 24 (four s i) ≡ 4
+  three-ones : (i : ℕ) → i < 24 → T (leads s i) → ones 24 (rest s i) ≡ 3
   unfolding threeLeft
-  four-ones i g t =
-      let top-four : Top 24 (four s i) i (rest s i) = record { place = g; below = ltb→lt (rest s i) (2 ^ i) t; whole = refl } in
-      let three : ones 24 (rest s i) ≡ 3 =
+  three-ones i g t =
       eqb→eq (ones 24 (rest s i)) 3
       (apply (leads s i) (eqb (ones 24 (rest s i)) 3)
-      (below (threeLeft s) 24 (and-right (eqb (leaders s 24) 6) (all (threeLeft s) 24) counted) i g) t) in
-      ones-top top-four ∙ ap suc three
+      (below (threeLeft s) 24 (and-right (eqb (leaders s 24) 6) (all (threeLeft s) 24) counted) i g) t)
+
+  pub four-ones : (i : ℕ) → i < 24 → T (leads s i) → ones 24 (four s i) ≡ 4
+  four-ones i g t =
+      let whole : Top 24 (four s i) i (rest s i) = record { place = g; below = ltb→lt (rest s i) (2 ^ i) t; whole = refl } in
+      ones-top whole ∙ ap suc (three-ones i g t)

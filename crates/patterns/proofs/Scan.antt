@@ -59,7 +59,7 @@ module _ (f : ℕ → ℕ → Bool) (unit : ℕ) where
       (λ p q. subst₂ Passes (xor-assoc s r l ∙ ap (λ (x : ℕ). bitXor s (bitXor x l)) (sym (one-mul r))) (omega arith) (q refl))
       bit h
 
-  pub scan-law :
+  scan-law :
       (rs : List ℕ) (b s k place : ℕ)
       → T (scan f unit rs b s k place)
       → (w : ℕ)

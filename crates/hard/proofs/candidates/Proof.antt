@@ -1,5 +1,6 @@
 -- `hard::candidates` meets its contract: each refusal stands before the first store, and `fill` writes the candidates.
 -- Assumes nothing.
+use native.Mathlib.Omega.{arith}
 use denote.Ref.{now}
 use borrow.Author.Needs.{needs}
 use Rattle.patterns.proofs.Table.{table}
@@ -9,7 +10,7 @@ use Rattle.hard.proofs.candidates.Statement.{statement}
 use Rattle.hard.proofs.candidates.Tie as tie
 
 returns : tie.Need-returns
-returns c = writes-length (c .before .before .args .word) (now (c .before .before .args .slots)) (c .if1 .taken)
+returns c = writes-length (c .before .before .args .word) (now (c .before .before .args .slots)) (omega arith)
 
 syndrome-requires : tie.Need-syndrome-requires
 syndrome-requires c κs = search needs
@@ -41,7 +42,7 @@ returns-2 c =
     let called = matched .before .before in
     let start = called .before .before .before in
     let w = syndrome-accepted (start .args .word) (called .syndrome .ensures) (matched .s .given .1) in
-    writes-other (now (start .args .slots)) (called .before .if1 .left) (found w (read .pattern .ensures) (c .before .ones .ensures)) (c .if2 .taken)
+    writes-other (now (start .args .slots)) (omega arith) (found w (read .pattern .ensures) (c .before .ones .ensures)) (omega arith)
 
 slice-aggregate-fill : tie.Need-slice-aggregate-fill
 slice-aggregate-fill c = search needs
@@ -55,13 +56,13 @@ fill-requires c κs =
     let called = matched .before .before in
     let start = called .before .before .before in
     let w = syndrome-accepted (start .args .word) (called .syndrome .ensures) (matched .s .given .1) in
-    (table-patterns, (at-four w (read .pattern .ensures) (counted .ones .ensures) (c .before .before .if2 .left), called .before .if1 .left))
+    (table-patterns, (at-four w (read .pattern .ensures) (counted .ones .ensures) (omega arith), omega arith))
 
 returns-3 : tie.Need-returns-3
 returns-3 c =
     let called = c .before .before .before in
     let start = called .before .before .before in
-    writes-above (now (start .args .slots)) (called .before .if1 .left)
+    writes-above (now (start .args .slots)) (omega arith)
     (syndrome-refused (start .args .word) (called .syndrome .ensures) (c .before .reason .given .1))
 
 same-length : tie.Need-same-length
@@ -76,8 +77,8 @@ returns-4 c =
     let called = matched .before .before in
     let start = called .before .before .before in
     let w = syndrome-accepted (start .args .word) (called .syndrome .ensures) (matched .s .given .1) in
-    writes-four (now (start .args .slots)) (called .before .if1 .left) (found w (read .pattern .ensures) (four .before .ones .ensures))
-    (four .if2 .left) (filled .fill .ensures)
+    writes-four (now (start .args .slots)) (omega arith) (found w (read .pattern .ensures) (four .before .ones .ensures))
+    (omega arith) (filled .fill .ensures)
 
 pub candidates-spec : {M : Type 1} → statement M
 candidates-spec =

@@ -1,5 +1,6 @@
 -- `hard::correct` meets its contract: the pattern of golay's syndrome, and its ones, are what the rule goes by.
 -- Assumes nothing.
+use native.Mathlib.Omega.{arith}
 use borrow.Author.Needs.{needs}
 use Rattle.patterns.proofs.Table.{table}
 use Rattle.patterns.proofs.Patterns.{table-patterns}
@@ -35,7 +36,7 @@ returns c =
     let matched = read .before .before .before in
     let called = matched .before .before in
     let w = syndrome-accepted (called .before .args .word) (called .syndrome .ensures) (matched .s .given .1) in
-    corrects-four (found w (read .pattern .ensures) (c .before .ones .ensures)) (c .if1 .taken)
+    corrects-four (found w (read .pattern .ensures) (c .before .ones .ensures)) (omega arith)
 
 returns-2 : tie.Need-returns-2
 returns-2 c =
@@ -48,7 +49,7 @@ returns-3 c =
     let matched = read .before .before .before in
     let called = matched .before .before in
     let w = syndrome-accepted (called .before .args .word) (called .syndrome .ensures) (matched .s .given .1) in
-    corrects-nearer (found w (read .pattern .ensures) (c .before .ones .ensures)) (c .if1 .left)
+    corrects-nearer (found w (read .pattern .ensures) (c .before .ones .ensures)) (omega arith)
 
 pub correct-spec : {M : Type 1} → statement M
 correct-spec =

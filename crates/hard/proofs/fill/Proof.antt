@@ -105,7 +105,7 @@ same-length : tie.Need-same-length Inv-loop μ-loop
 same-length c = c .before .loop .inv .size ∙ sym (c .before .before .before .before .pre .1 .1)
 
 returns : tie.Need-returns Inv-loop μ-loop
-returns c = done (c .before .before .before .before .pre .1 .0) (c .before .loop .inv) (omega arith)
+returns c = done (c .before .loop .inv) (omega arith) (c .before .before .before .before .pre .1 .0)
 
 pub fill-spec : {M : Type 1} → statement M
 fill-spec =
