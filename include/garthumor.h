@@ -1,17 +1,19 @@
-/* Garthumor: the extended Golay code as document 01 defines it.
+/* Garthumor: a decoder for the extended Golay code, as document 01 defines it.
  *
  * Each call returns 0 where it answers, else the number of a refusal, and writes its outputs only
  * where it answers: a refusal leaves every output and every lent byte as it was. Where several
  * refusals apply, the first that a call lists is the one that it gives.
  *
- *   1  a codeword buffer is not 3 bytes, or the slots are not six
- *   3  a message is above 4,095                  5  a valid word is not a codeword
- *   4  a word is above 16,777,215                7  correction at distance 4
- *                                                8  candidates at a distance other than 4
+ *   1  a reading is not 24 long, a codeword buffer is not 3 bytes, or the slots are not six
+ *   2  a confidence is -2,147,483,648        6  tied: no one word is best
+ *   3  a message is above 4,095              7  correction at distance 4
+ *   4  a word is above 16,777,215            8  candidates at a distance other than 4
+ *   5  a valid word is not a codeword       11  a class number is above 127
  *
- * A word is a number below 2^24; position 1 is worth 2^23. Bytes come first position first.
- * The caller keeps: pointers are valid, not null and aligned, a length is how many stand behind its pointer,
- * and no two arguments overlap. Nothing is kept between calls, so calls may run side by side. */
+ * A word is a number below 2^24; position 1 is worth 2^23, and bytes come first position first. A
+ * reading is 24 confidences, position 1 first; positive speaks for bit 0.
+ * The caller keeps: pointers are valid, not null and aligned, a length is how many stand behind its
+ * pointer, and no two arguments overlap. Nothing is kept between calls: they may run side by side. */
 #ifndef GARTHUMOR_H
 #define GARTHUMOR_H
 
@@ -36,6 +38,17 @@ uint8_t garthumor_correct(uint32_t word, uint32_t *codeword, uint32_t *distance)
 
 /* Writes the six codewords at distance 4, ascending, to six slots. Refuses 1, 4, 8. */
 uint8_t garthumor_candidates(uint32_t word, uint32_t *slots, size_t slot_count);
+
+/* The largest correlation among the 32 codewords of a class, 0 to 127. Refuses 1, 2, 11. */
+uint8_t garthumor_class_figure(const int32_t *reading, size_t length, uint32_t class_number, int64_t *figure);
+
+/* The one codeword with the largest correlation. Any change of the confidences, within
+ * -2,147,483,647 to 2,147,483,647, that adds up to less than the reserve keeps it; some change of
+ * exactly the reserve loses it. Refuses 1, 2, 6. */
+uint8_t garthumor_soft(const int32_t *reading, size_t length, uint32_t *message, uint32_t *codeword, int64_t *correlation, int64_t *reserve);
+
+/* For comparison: the signs, corrected; may give another word than soft. Refuses 1, 2, 6. */
+uint8_t garthumor_quick(const int32_t *reading, size_t length, uint32_t *codeword);
 
 /* Writes a codeword as three bytes. Refuses 1, 4, 5. */
 uint8_t garthumor_write_bytes(uint32_t codeword, uint8_t *bytes, size_t length);

@@ -2,9 +2,11 @@
 use mathlib.Core.Path.{_≡_}
 use mathlib.Core.List.{List}
 use Prim.Native.Nat.{ℕ}
+use lib.IntN.{ℤ}
 use Rattle.golay.specs.Answers.{Answer, accepted, refused}
 use Rattle.hard.specs.Answers.{Correction}
 use Rattle.hard.specs.Calls.{WritesCandidates}
+use Rattle.soft.specs.declared.kinds.Soft.{Soft}
 
 module _ {A : Type 0} where
   abbrev pub returned : Answer A → ℕ
@@ -30,9 +32,17 @@ pub record HandsBackOne {A M : Type 0} (Allowed : Answer A → Type 0) (made : A
 abbrev pub itself : {A : Type 0} → A → A
 itself x = x
 
--- two outputs as one value
+-- several outputs as one value
 abbrev pub correction : ℕ → ℕ → Correction
 correction codeword distance = record { codeword = codeword; distance = distance }
+
+abbrev pub values : ℕ → ℕ → ℤ → ℤ → Soft
+values message codeword correlation reserve = record {
+  message = record { 0 = message };
+  codeword = record { 0 = codeword };
+  correlation = correlation;
+  reserve = reserve;
+}
 
 -- the candidate call: its status, and what the slots hold
 pub record HandsBackCandidates (word : ℕ) (before after : List ℕ) (status : ℕ) : Type 0 where

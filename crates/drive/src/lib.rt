@@ -2,7 +2,9 @@
 ghost use Rattle.golay.specs.Bytes.{bytesOf};
 ghost use Rattle.golay.specs.Calls.{encodeRule, readRule, syndromeRule, writeBytesRule, readBytesRule};
 ghost use Rattle.hard.specs.Calls.{Corrects};
-ghost use Rattle.drive.specs.Drive.{HandsBack, HandsBackOne, HandsBackCandidates, itself, correction};
+ghost use Rattle.soft.specs.Calls.{ClassFigureRule, SoftRule};
+ghost use Rattle.quick.specs.Quick.{QuickRule};
+ghost use Rattle.drive.specs.Drive.{HandsBack, HandsBackOne, HandsBackCandidates, itself, correction, values};
 use golay::kinds::EncodeAnswer;
 use golay::kinds::Message;
 use golay::kinds::ReadAnswer;
@@ -11,6 +13,9 @@ use golay::kinds::SyndromeAnswer;
 use golay::kinds::WriteBytesAnswer;
 use hard::kinds::CandidatesAnswer;
 use hard::kinds::CorrectAnswer;
+use quick::kinds::QuickAnswer;
+use soft::kinds::ClassFigureAnswer;
+use soft::kinds::SoftAnswer;
 
 #[no_mangle]
 pub extern "C" fn garthumor_encode(message: u32, codeword: &mut u32) -> u8
@@ -72,6 +77,58 @@ pub extern "C" fn garthumor_candidates(word: u32, slots: &mut [u32]) -> u8
     match hard::candidates(word, slots) {
         CandidatesAnswer::Accepted => 0,
         CandidatesAnswer::Refused(reason) => golay::refusal_number(reason),
+    }
+}
+
+#[no_mangle]
+pub extern "C" fn garthumor_class_figure(reading: &[i32], class_number: u32, figure: &mut i64) -> u8
+    ensures { λ r. ⌜ HandsBackOne (ClassFigureRule (now (reading .entry)) «class_number») itself (now (figure .entry)) (now (figure .exit)) r ⌝ }
+{
+    match soft::class_figure(reading, class_number) {
+        ClassFigureAnswer::Accepted(f) => {
+            *figure = f;
+            0
+        }
+        ClassFigureAnswer::Refused(reason) => golay::refusal_number(reason),
+    }
+}
+
+#[no_mangle]
+pub extern "C" fn garthumor_soft(
+    reading: &[i32],
+    message: &mut u32,
+    codeword: &mut u32,
+    correlation: &mut i64,
+    reserve: &mut i64,
+) -> u8
+    ensures { λ r. ⌜ HandsBackOne (SoftRule (now (reading .entry))) itself (values (now (message .entry)) (now (codeword .entry)) (now (correlation .entry)) (now (reserve .entry))) (values (now (message .exit)) (now (codeword .exit)) (now (correlation .exit)) (now (reserve .exit))) r ⌝ }
+{
+    match soft::soft(reading) {
+        SoftAnswer::Accepted(s) => {
+            let m = s.message;
+            let c = s.codeword;
+            let largest = s.correlation;
+            let kept = s.reserve;
+            *message = m.0;
+            *codeword = c.0;
+            *correlation = largest;
+            *reserve = kept;
+            0
+        }
+        SoftAnswer::Refused(reason) => golay::refusal_number(reason),
+    }
+}
+
+#[no_mangle]
+pub extern "C" fn garthumor_quick(reading: &[i32], codeword: &mut u32) -> u8
+    ensures { λ r. ⌜ HandsBackOne (QuickRule (now (reading .entry))) itself (now (codeword .entry)) (now (codeword .exit)) r ⌝ }
+{
+    match quick::quick(reading) {
+        QuickAnswer::Accepted(c) => {
+            *codeword = c.0;
+            0
+        }
+        QuickAnswer::Refused(reason) => golay::refusal_number(reason),
     }
 }
 

@@ -1,0 +1,4 @@
+pub mod Positions
+pub mod Codewords
+pub mod Columns
+pub mod Classes

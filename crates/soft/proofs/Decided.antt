@@ -1,0 +1,73 @@
+-- Two answers that a rule allows for one input are equal: the contest has one answer, and the largest of a class has one value.
+use mathlib.Core.Path.{_≡_, refl, sym, ap, _∙_}
+use mathlib.Core.Bool.{Bool, true, false}
+use mathlib.Core.List.{List}
+use Prim.Native.Nat.{ℕ}
+use lib.IntN.{ℤ}
+use Rattle.signed.proofs.Parts.{ints}
+use Rattle.contest.proofs.Decided.{one-answer}
+use Rattle.code.specs.Code.{messages}
+use Rattle.golay.specs.declared.kinds.Refusal.{Refusal}
+use Rattle.golay.specs.Answers.{Refuse, Answer, accepted, refused}
+use Rattle.golay.proofs.Decided.{said-once, reason, reason-number}
+use Rattle.classes.specs.Codewords.{word}
+use Rattle.soft.specs.declared.kinds.Soft.{Soft}
+use Rattle.soft.specs.declared.kinds.SoftAnswer.{SoftAnswer}
+use Rattle.soft.specs.declared.kinds.SoftAnswer.the-variants as soft
+use Rattle.soft.specs.declared.kinds.ClassFigureAnswer.{ClassFigureAnswer}
+use Rattle.soft.specs.declared.kinds.ClassFigureAnswer.the-variants as figure
+use Rattle.soft.specs.Answers.{softAnswer, classFigureAnswer}
+use Rattle.reading.specs.Checks.{wrongLength, mostNegative}
+use Rattle.soft.specs.Calls.{classAbove, told, Decides, SoftRule, HasFigure, ClassFigureRule}
+
+-- a refusal adds nothing to choose from
+refuse-once : {A : Type 0} {Next : Answer A → Type 0} (reason : Refusal) (test : Bool) → ((a b : Answer A) → Next a → Next b → a ≡ b)
+    → (a b : Answer A) → Refuse reason test Next a → Refuse reason test Next b → a ≡ b
+refuse-once reason true once a b p q = p ∙ sym q
+refuse-once reason false once a b p q = once a b p q
+
+decides-once : (xs : List ℤ) (a b : Answer Soft) → Decides xs a → Decides xs b → a ≡ b
+decides-once xs a b p q = p .is ∙ ap (told xs) (one-answer messages word xs (p .outcome) (q .outcome) (p .answers) (q .answers)) ∙ sym (q .is)
+
+figure-once : (xs : List ℤ) (k : ℕ) (a b : Answer ℤ) → HasFigure xs k a → HasFigure xs k b → a ≡ b
+figure-once xs k a b p q =
+    let g = p .largest .most (q .message) (q .largest .from) (q .largest .below) in
+    let h = q .largest .most (p .message) (p .largest .from) (p .largest .below) in
+    p .is ∙ ap accepted (omega ints) ∙ sym (q .is)
+
+pub soft-once : (xs : List ℤ) (a b : Answer Soft) → SoftRule xs a → SoftRule xs b → a ≡ b
+unfolding SoftRule
+soft-once xs = refuse-once _ (wrongLength xs) (refuse-once _ (mostNegative xs) (decides-once xs))
+
+classFigure-once : (xs : List ℤ) (k : ℕ) (a b : Answer ℤ) → ClassFigureRule xs k a → ClassFigureRule xs k b → a ≡ b
+unfolding ClassFigureRule
+classFigure-once xs k =
+    refuse-once _ (wrongLength xs) (refuse-once _ (mostNegative xs) (refuse-once _ (classAbove k) (figure-once xs k)))
+
+-- ---- of the calls' own answers, which are made again from what they stand for
+
+soft-again : Answer Soft → SoftAnswer
+soft-again (accepted values) = soft.Accepted values
+soft-again (refused n) = soft.Refused (reason n)
+
+soft-back : (r : SoftAnswer) → soft-again (softAnswer r) ≡ r
+unfolding soft-again
+soft-back (soft.Accepted values) = refl
+soft-back (soft.Refused r) = ap soft.Refused (reason-number r)
+
+figure-again : Answer ℤ → ClassFigureAnswer
+figure-again (accepted value) = figure.Accepted value
+figure-again (refused n) = figure.Refused (reason n)
+
+figure-back : (r : ClassFigureAnswer) → figure-again (classFigureAnswer r) ≡ r
+unfolding figure-again
+figure-back (figure.Accepted value) = refl
+figure-back (figure.Refused r) = ap figure.Refused (reason-number r)
+
+pub soft-decided : (xs : List ℤ) (x y : SoftAnswer) → SoftRule xs (softAnswer x) → SoftRule xs (softAnswer y) → x ≡ y
+soft-decided xs x y p q = said-once softAnswer soft-again soft-back x y (soft-once xs (softAnswer x) (softAnswer y) p q) refl
+
+pub classFigure-decided : (xs : List ℤ) (k : ℕ) (x y : ClassFigureAnswer)
+    → ClassFigureRule xs k (classFigureAnswer x) → ClassFigureRule xs k (classFigureAnswer y) → x ≡ y
+classFigure-decided xs k x y p q =
+    said-once classFigureAnswer figure-again figure-back x y (classFigure-once xs k (classFigureAnswer x) (classFigureAnswer y) p q) refl

@@ -1,0 +1,57 @@
+-- What the soft calls answer, for every reading, their refusals in document 01's order: "Lengths first, then 2, 3, 4 and 11, then 5, then
+-- the rest."
+use mathlib.Core.Path.{_≡_}
+use mathlib.Core.Bool.{Bool}
+use mathlib.Core.List.{List}
+use Prim.Native.Nat.{ℕ, _+_, _*_}
+use lib.Dec.{leb}
+use lib.IntN.{ℤ, pos}
+use Rattle.contest.specs.Readings.{scores}
+use Rattle.contest.specs.Largest.{Largest}
+use Rattle.contest.specs.Answers.{Answers}
+use Rattle.contest.specs.Answers as contest
+use Rattle.code.specs.Code.{messages, codewordOf}
+use Rattle.golay.specs.declared.kinds.Refusal.the-variants.{WrongLength, MostNegative, Tied, ClassAbove}
+use Rattle.golay.specs.Refusals.{number}
+use Rattle.golay.specs.Answers.{Answer, accepted, refused, Refuse}
+use Rattle.reading.specs.Checks.{wrongLength, mostNegative}
+use Rattle.classes.specs.Codewords.{word}
+use Rattle.classes.specs.Classes.{classes}
+use Rattle.soft.specs.declared.kinds.Soft.{Soft}
+
+-- "a class number is above 127"
+abbrev pub classAbove : ℕ → Bool
+classAbove k = leb classes k
+
+-- "The soft answer is the only codeword with the largest correlation, its message, that correlation, and the reserve"
+abbrev pub values : List ℤ → ℕ → ℕ → Soft
+values xs m ρ = record {
+  message = record { 0 = m };
+  codeword = record { 0 = codewordOf m };
+  correlation = scores word xs m;
+  reserve = pos ρ;
+}
+
+-- "If two codewords share the largest correlation the answer is refusal 6."
+abbrev pub told : List ℤ → contest.Answer → Answer Soft
+told xs (contest.accepted m ρ) = accepted (values xs m ρ)
+told xs contest.tied = refused (number Tied)
+
+-- the answer is that of the contest of the 4,096 codewords
+pub record Decides (xs : List ℤ) (answer : Answer Soft) : Type 0 where
+  pub outcome : contest.Answer
+  pub answers : Answers messages word xs outcome
+  pub is : answer ≡ told xs outcome
+
+unfoldable pub SoftRule : List ℤ → Answer Soft → Type 0
+SoftRule xs = Refuse WrongLength (wrongLength xs) (Refuse MostNegative (mostNegative xs) (Decides xs))
+
+-- "Its figure is the largest correlation in the class": among the 32 codewords from message 32 k on
+pub record HasFigure (xs : List ℤ) (k : ℕ) (answer : Answer ℤ) : Type 0 where
+  pub message : ℕ
+  pub largest : Largest (scores word xs) (k * 32) (k * 32 + 32) message
+  pub is : answer ≡ accepted (scores word xs message)
+
+unfoldable pub ClassFigureRule : List ℤ → ℕ → Answer ℤ → Type 0
+ClassFigureRule xs k =
+    Refuse WrongLength (wrongLength xs) (Refuse MostNegative (mostNegative xs) (Refuse ClassAbove (classAbove k) (HasFigure xs k)))
