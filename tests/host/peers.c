@@ -4,20 +4,6 @@ enum { POSITIONS = 24, MESSAGES = 4096, COLUMNS = 6, CLASSES = 128 };
 
 static uint32_t codewords[MESSAGES];
 
-void peers_start(void)
-{
-    static const uint32_t rows[12] = {
-        0x0000FF, 0x000F0F, 0x00F00F, 0x0F000F, 0xF0000F, 0x003333,
-        0x005555, 0x030356, 0x050563, 0x300365, 0x500536, 0x777778,
-    };
-    for (uint32_t m = 0; m < MESSAGES; m++) {
-        codewords[m] = 0;
-        for (int i = 0; i < 12; i++)
-            if (m >> i & 1)
-                codewords[m] ^= rows[i];
-    }
-}
-
 uint32_t field_decode(const int32_t *reading)
 {
     int32_t best = INT32_MIN;
@@ -130,12 +116,23 @@ struct keeper {
     uint32_t at;
 };
 
-static void figures(const uint64_t added[48], const uint64_t least[48], uint32_t parity, struct keeper *k)
+/* Where a class's third and fourth column stand together among the blocks, and its fifth and sixth. */
+static uint8_t middle[64], last[64];
+
+static void blocks_of_classes(void)
 {
     for (uint32_t class = 0; class < 64; class++) {
         uint8_t x[COLUMNS];
         characters(class, x);
-        int i = 4 * x[0] + x[1], j = 16 + 4 * x[2] + x[3], l = 32 + 4 * x[4] + x[5];
+        middle[class] = 16 + 4 * x[2] + x[3];
+        last[class] = 32 + 4 * x[4] + x[5];
+    }
+}
+
+static void figures(const uint64_t added[48], const uint64_t least[48], uint32_t parity, struct keeper *k)
+{
+    for (uint32_t class = 0; class < 64; class++) {
+        int i = class / 4, j = middle[class], l = last[class];
         uint64_t sum = added[i] + added[j] + added[l];
         uint64_t low = smaller(least[i], smaller(least[j], least[l]));
         uint64_t figure = sum / 8 - 2 * (low / 8) * ((sum + parity) % 2);
@@ -195,4 +192,19 @@ uint8_t class_decode(const int32_t *reading, uint32_t *message, int64_t *correla
     }
     int64_t own = details(sums[k.at / 64], k.at, message);
     return told((int64_t)k.best, own > (int64_t)k.second ? own : (int64_t)k.second, correlation, reserve);
+}
+
+void peers_start(void)
+{
+    static const uint32_t rows[12] = {
+        0x0000FF, 0x000F0F, 0x00F00F, 0x0F000F, 0xF0000F, 0x003333,
+        0x005555, 0x030356, 0x050563, 0x300365, 0x500536, 0x777778,
+    };
+    for (uint32_t m = 0; m < MESSAGES; m++) {
+        codewords[m] = 0;
+        for (int i = 0; i < 12; i++)
+            if (m >> i & 1)
+                codewords[m] ^= rows[i];
+    }
+    blocks_of_classes();
 }

@@ -4,7 +4,7 @@ ghost use Prim.Native.Nat.{_<_};
 ghost use lib.ListN.{length};
 ghost use Rattle.binary.specs.Words.{rowSum};
 ghost use Rattle.binary.specs.Words as words;
-ghost use Rattle.code.specs.Code.{words, isCodeword};
+ghost use Rattle.code.specs.Code.{words, isCodeword, syndromeOf};
 ghost use Rattle.golay.specs.Refusals.{number};
 ghost use Rattle.golay.specs.Answers.{encodeAnswer, readAnswer, syndromeAnswer, distanceAnswer, writeBytesAnswer, readBytesAnswer};
 ghost use Rattle.golay.specs.Bytes.{wordOf};
@@ -46,11 +46,18 @@ fn row_sum(rows: &[u32], word: u32) -> u32
     sum
 }
 
+fn syndrome_of(word: u32) -> u32
+    requires { ⌜ word < words ⌝ }
+    ensures { λ r. ⌜ r ≡ syndromeOf word ⌝ }
+{
+    row_sum(&SYNDROMES, word)
+}
+
 fn is_codeword(word: u32) -> bool
     requires { ⌜ word < words ⌝ }
     ensures { λ r. ⌜ r ≡ isCodeword word ⌝ }
 {
-    row_sum(&SYNDROMES, word) == 0
+    syndrome_of(word) == 0
 }
 
 fn wide(byte: u8) -> u32
@@ -117,7 +124,7 @@ pub fn syndrome(word: u32) -> SyndromeAnswer
     if word >= WORDS {
         return SyndromeAnswer::Refused(Refusal::WordAbove);
     }
-    SyndromeAnswer::Accepted(Syndrome(row_sum(&SYNDROMES, word)))
+    SyndromeAnswer::Accepted(Syndrome(syndrome_of(word)))
 }
 
 // How many ones a number of 32 bits has: each turn takes the lowest one away.
