@@ -1,13 +1,13 @@
 -- The 4,096 codewords are a family of words of 24 bits, and from each of them another stands at distance 8: the sum with a codeword that has
 -- 8 ones.
-use mathlib.Core.Path.{_≡_, refl, sym, ap, ap₂, _∙_}
+use mathlib.Core.Path.{_≡_, sym, ap, _∙_}
 use mathlib.Core.Logic.{_≢_}
 use Prim.Native.Nat.{ℕ, _<_}
 use native.Mathlib.Omega.{arith}
 use lib.Dec.{lit<, lit≤}
 use lib.Bits.{bitXor, xor-lt, xor-self}
 use lib.ListN.{length}
-use Rattle.binary.specs.Words.{ones, rowSum}
+use Rattle.binary.specs.Words.{ones}
 use Rattle.binary.proofs.Xor.{xor-back}
 use Rattle.binary.proofs.Linear.{rowSum-add}
 use Rattle.code.specs.Code.{messages, codewordOf}

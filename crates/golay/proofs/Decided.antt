@@ -29,14 +29,10 @@ pub said-once : {A B : Type 0} (f : A → B) (g : B → A) → ((a : A) → g (f
 said-once f g back x y p q = sym (back x) ∙ ap g (p ∙ sym q) ∙ back y
 
 -- a refusal in front of a relation that allows one answer leaves one answer
-pub refuse-once :
-    {A : Type 0} (r : Refusal) (test : Bool) (P : Answer A → Type 0) {a b : Answer A}
-    → (P a → P b → a ≡ b)
-    → Refuse r test P a
-    → Refuse r test P b
-    → a ≡ b
-refuse-once r true P f p q = p ∙ sym q
-refuse-once r false P f p q = f p q
+pub refuse-once : {A : Type 0} {Next : Answer A → Type 0} (r : Refusal) (test : Bool) → ((a b : Answer A) → Next a → Next b → a ≡ b)
+    → (a b : Answer A) → Refuse r test Next a → Refuse r test Next b → a ≡ b
+refuse-once r true once a b p q = p ∙ sym q
+refuse-once r false once a b p q = once a b p q
 
 -- the reasons by their numbers, which start at 1
 abbrev reasons : List Refusal

@@ -81,4 +81,4 @@ pub quick-decided : (xs : List ℤ) (x y : QuickAnswer) → QuickRule xs (quickA
 unfolding QuickRule
 quick-decided xs x y p q =
     said-once quickAnswer again back x y
-    (refuse-once _ (wrongLength xs) _ (λ s t. refuse-once _ (mostNegative xs) (Decides xs) decides-one s t) p q) refl
+    (refuse-once _ (wrongLength xs) (refuse-once _ (mostNegative xs) (λ a b s t. decides-one s t)) (quickAnswer x) (quickAnswer y) p q) refl

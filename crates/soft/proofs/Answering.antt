@@ -61,14 +61,15 @@ module _ {xs : List ℤ} {b s : ℤ} {m : ℕ} (A : Best (scores word xs) 0 mess
   pub answer-tied : b ≡ s → Decides xs (refused 6)
   answer-tied e = record { outcome = tied; answers = settled-tied A e; is = refl }
 
-  pub answer-accepted : {B : ℕ} → Reading B 24 xs → b ≢ s → {w : Codeword} → w ≡ record { 0 = codewordOf m }
-      → Decides xs (golay.accepted (record { message = record { 0 = m }; codeword = w; correlation = b; reserve = quotZ (b -ℤ s) (pos 2) }))
-  answer-accepted X d {w} e =
+  pub answer-accepted : {B : ℕ} → Reading B 24 xs → b ≢ s → {w : Codeword} {c r : ℤ}
+      → w ≡ record { 0 = codewordOf m } → c ≡ b → r ≡ quotZ (b -ℤ s) (pos 2)
+      → Decides xs (golay.accepted (record { message = record { 0 = m }; codeword = w; correlation = c; reserve = r }))
+  answer-accepted X d e f g =
       let a = settled family X A (ahead A d) in
       record {
         outcome = accepted m (a .0);
         answers = a .2;
-        is = ap golay.accepted (same-values xs m (a .0) e (A .best) (ap (λ (z : ℤ). quotZ z (pos 2)) (a .1) ∙ quot-double (a .0)));
+        is = ap golay.accepted (same-values xs m (a .0) e (f ∙ A .best) (g ∙ ap (λ (z : ℤ). quotZ z (pos 2)) (a .1) ∙ quot-double (a .0)));
       }
 
 -- what is held of a reading's correlations

@@ -1,15 +1,13 @@
 -- Two answers that a rule allows for one input are equal: the contest has one answer, and the largest of a class has one value.
 use mathlib.Core.Path.{_≡_, refl, sym, ap, _∙_}
-use mathlib.Core.Bool.{Bool, true, false}
 use mathlib.Core.List.{List}
 use Prim.Native.Nat.{ℕ}
 use lib.IntN.{ℤ}
 use Rattle.signed.proofs.Parts.{ints}
 use Rattle.contest.proofs.Decided.{one-answer}
 use Rattle.code.specs.Code.{messages}
-use Rattle.golay.specs.declared.kinds.Refusal.{Refusal}
-use Rattle.golay.specs.Answers.{Refuse, Answer, accepted, refused}
-use Rattle.golay.proofs.Decided.{said-once, reason, reason-number}
+use Rattle.golay.specs.Answers.{Answer, accepted, refused}
+use Rattle.golay.proofs.Decided.{said-once, refuse-once, reason, reason-number}
 use Rattle.classes.specs.Codewords.{word}
 use Rattle.soft.specs.declared.kinds.Soft.{Soft}
 use Rattle.soft.specs.declared.kinds.SoftAnswer.{SoftAnswer}
@@ -19,12 +17,6 @@ use Rattle.soft.specs.declared.kinds.ClassFigureAnswer.the-variants as f
 use Rattle.soft.specs.Answers.{softAnswer, classFigureAnswer}
 use Rattle.reading.specs.Checks.{wrongLength, mostNegative}
 use Rattle.soft.specs.Calls.{classAbove, told, Decides, SoftRule, HasFigure, ClassFigureRule}
-
--- a refusal adds nothing to choose from
-refuse-once : {A : Type 0} {Next : Answer A → Type 0} (reason : Refusal) (test : Bool) → ((a b : Answer A) → Next a → Next b → a ≡ b)
-    → (a b : Answer A) → Refuse reason test Next a → Refuse reason test Next b → a ≡ b
-refuse-once reason true once a b p q = p ∙ sym q
-refuse-once reason false once a b p q = once a b p q
 
 decides-once : (xs : List ℤ) (a b : Answer Soft) → Decides xs a → Decides xs b → a ≡ b
 decides-once xs a b p q = p .is ∙ ap (told xs) (one-answer messages word xs (p .outcome) (q .outcome) (p .answers) (q .answers)) ∙ sym (q .is)

@@ -1,23 +1,22 @@
 -- Demands 2 and 3 of the soft decoder, for every answer that its promise allows: the theorems of any family of words, at the 4,096 codewords
 -- and document 01's range.
 use mathlib.Core.Path.{_≡_, refl, sym, ap, _∙_}
-use mathlib.Core.Logic.{_≢_, _⊎_, inl, inr}
-use mathlib.Core.Bool.{Bool, true, false}
+use mathlib.Core.Logic.{_≢_}
+use mathlib.Core.Bool.{false}
 use mathlib.Core.List.{List}
-use Prim.Native.Nat.{ℕ, _*_, _≤_, _<_}
+use Prim.Native.Nat.{ℕ, _≤_, _<_}
 use native.Mathlib.Omega.{arith}
 use native.Mathlib.Decide.{ℕ-discrete}
 use lib.IntN.{ℤ, pos}
-use lib.ListN.{length}
 use lib.Signed.{_≤ℤ_, _<ℤ_, ≤ℤ-refl}
 use Rattle.signed.specs.Within.{Within}
 use Rattle.signed.proofs.Parts.{ints}
-use Rattle.contest.specs.Readings.{Reading, InRange, scores, change}
+use Rattle.contest.specs.Readings.{Reading, scores, change}
 use Rattle.contest.specs.Largest.{Largest}
 use Rattle.contest.specs.Answers.{Accepted, Tied, Answers}
 use Rattle.contest.specs.Answers as contest
 use Rattle.contest.proofs.Bounds.{range-at}
-use Rattle.contest.proofs.Decided.{not-both, only-largest}
+use Rattle.contest.proofs.Decided.{only-largest}
 use Rattle.contest.proofs.Reserve.{score-size, reserve-positive, reserve-most}
 use Rattle.contest.proofs.Sharp.{safe, sharp}
 use Rattle.code.specs.Code.{messages, codewordOf}

@@ -1,15 +1,13 @@
 -- The figures of the classes from the codes of the sums: the codes in pairs, the figure of six codes, and what is kept of the figures.
-use mathlib.Core.Path.{_≡_, refl, sym, ap, ap₂, _∙_, subst}
+use mathlib.Core.Path.{_≡_, refl, sym, ap, ap₂, _∙_}
 use mathlib.Core.Logic.{_≢_}
-use mathlib.Core.Bool.{Bool, true, false}
 use mathlib.Core.List.{List, [], _∷_}
 use Prim.Native.Nat.{ℕ, zero, suc, _+_, _*_, _/_, _%_, _^_, _≤_, _<_, min}
 use native.Mathlib.Nat.{min-comm, min-le-left}
-use native.Mathlib.Numerals.{add-one}
 use native.Mathlib.Omega.{arith}
 use native.Mathlib.Decide.{ℕ-discrete, decLe}
-use lib.Dec.{T, eqb, lit≤}
-use lib.IntN.{ℤ, pos, natAbs, _-ℤ_, +ℤ-idr}
+use lib.Dec.{eqb, lit≤}
+use lib.IntN.{ℤ, pos, _-ℤ_, +ℤ-idr}
 use lib.ListN.{length, getD, set, List·getD-eq-default}
 use mir.Syntax.{w64}
 use mir.Val.{Fits}
@@ -17,13 +15,9 @@ use Rattle.signed.specs.Sign.{sign}
 use Rattle.signed.specs.Within.{Within}
 use Rattle.signed.proofs.Bounds.{within-pos, within-sub, within-le}
 use Rattle.binary.proofs.Xor.{two-cases, bit-lt}
-use Rattle.contest.specs.Words.{one, odd}
+use Rattle.contest.specs.Words.{odd}
 use Rattle.contest.specs.Readings.{InRange, correlation, scores}
-use Rattle.contest.specs.Kept.{Seen, seen, lowest, Kept, taken}
-use Rattle.contest.specs.declared.Keeper.{Keeper}
 use Rattle.contest.proofs.Loss.{weight}
-use Rattle.contest.proofs.Keeping.{keep-first}
-use Rattle.contest.proofs.KeptSpan.{run}
 use Rattle.contest.proofs.Numbers.{one-small, bit-same, bit-other, tops}
 use Rattle.contest.proofs.Runs.{Figure}
 use Rattle.contest.proofs.Figures.{signs, least, figure-same, figure-other}
@@ -33,8 +27,8 @@ use Rattle.classes.specs.Codewords.{word}
 use Rattle.classes.specs.Classes.{classes, parityOf, charactersOf}
 use Rattle.soft.specs.Places.{Filled}
 use Rattle.soft.specs.Columns.{SumsWithin, place, Sums}
-use Rattle.soft.specs.Details.{far, picks}
-use Rattle.soft.specs.Figures.{widest, CodeAt, Codes, firstOf, secondOf, PairAt, Pairs, middleOf, lastOf, scored, figureFrom, figureOf, figureAt, KeptUpTo}
+use Rattle.soft.specs.Details.{far}
+use Rattle.soft.specs.Figures.{widest, CodeAt, Codes, firstOf, secondOf, PairAt, Pairs, middleOf, lastOf, scored, figureFrom, figureOf, figureAt}
 use Rattle.soft.proofs.Filling.{put-four}
 use Rattle.soft.proofs.Sizing.{fourth-small, fifth-small, sixth-small, class-is}
 

@@ -13,7 +13,7 @@ use lib.Bits.{bitXor, xor-lt}
 use lib.IntN.{ℤ, pos, natAbs, _-ℤ_}
 use lib.ListN.{length, getD}
 use Rattle.signed.specs.Sign.{sign}
-use Rattle.binary.proofs.Tests.{all, below}
+use Rattle.binary.proofs.Tests.{below}
 use Rattle.contest.specs.Words.{one, odd}
 use Rattle.contest.specs.Readings.{correlation, scores}
 use Rattle.contest.specs.Largest.{Best}

@@ -1,13 +1,13 @@
 -- A column's eight sums from its two pairs, and the array that holds them: each equation of signed sums is one of the confidences' parts.
-use mathlib.Core.Path.{_≡_, refl, _∙_}
+use mathlib.Core.Path.{_≡_, refl}
 use mathlib.Core.List.{List, _∷_}
 use Prim.Native.Nat.{ℕ, suc, _+_, _*_, _/_, _%_, _≤_, _<_}
 use native.Mathlib.Omega.{arith}
-use native.Mathlib.Decide.{ℕ-discrete, decLe}
+use native.Mathlib.Decide.{decLe}
 use lib.Dec.{eqb, lit≤}
 use lib.IntN.{ℤ, pos, negℤ, _+ℤ_, _-ℤ_, +ℤ-idr}
-use lib.ListN.{length, getD, set, take, drop, length-set, List·getD-eq-default}
-use lib.Seq.{drop-cons, getD-set-same, getD-set-other}
+use lib.ListN.{length, getD, set, take, drop, List·getD-eq-default}
+use lib.Seq.{drop-cons}
 use Rattle.signed.specs.Sign.{signed}
 use Rattle.signed.specs.Within.{Within}
 use Rattle.signed.proofs.Sums.{at, _⊕_, _⊖_, opposite, by-eq}

@@ -3,7 +3,7 @@ use mathlib.Core.Path.{_≡_}
 use mathlib.Core.List.{List}
 use Prim.Native.Nat.{ℕ, _+_, _*_, _/_, _%_, _≤_, _<_, min}
 use lib.IntN.{ℤ, pos, _-ℤ_}
-use lib.ListN.{length, getD}
+use lib.ListN.{getD}
 use Rattle.contest.specs.Kept.{lowest, Kept}
 use Rattle.contest.specs.declared.Keeper.{Keeper}
 use Rattle.contest.proofs.KeptSpan.{run}

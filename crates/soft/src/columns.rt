@@ -4,6 +4,7 @@ ghost use mathlib.Core.Path.{_≡_};
 ghost use mathlib.Core.List.{List};
 ghost use lib.IntN.{ℤ};
 ghost use lib.ListN.{length};
+ghost use Rattle.contest.specs.Readings.{Reading};
 ghost use Rattle.soft.specs.Columns.{PairOf, Narrow, Sums, SumsUpTo};
 
 pub(crate) struct Pair {
@@ -46,8 +47,9 @@ fn put_column(sums: &mut [i64; 48], i: usize, upper: Pair, lower: Pair)
     sums[n + 7] = u + h;
 }
 
+// Of a reading that holds no number without an opposite.
 pub(crate) fn column_sums(reading: &[i32]) -> [i64; 48]
-    requires { ⌜ length (now reading) ≡ 24 ⌝ }
+    requires { ⌜ Reading 2147483647 24 (now reading) ⌝ }
     ensures { λ r. ⌜ Sums (now (reading .entry)) r ⌝ }
 {
     let mut sums: [i64; 48] = [0; 48];

@@ -2,9 +2,10 @@
 // reading, and its promise decides the whole answer.
 ghost use mathlib.Core.Path.{_≡_};
 ghost use mathlib.Core.List.{List};
-ghost use Prim.Native.Nat.{ℕ, _<_};
-ghost use lib.IntN.{ℤ};
+ghost use lib.IntN.{ℤ, pos, _-ℤ_};
 ghost use lib.ListN.{length};
+ghost use lib.Signed.{quotZ};
+ghost use Rattle.signed.specs.Within.{Within};
 ghost use Rattle.contest.specs.Readings.{Reading, scores};
 ghost use Rattle.code.specs.Code.{messages};
 ghost use Rattle.classes.specs.Codewords.{word};
@@ -56,6 +57,14 @@ fn two_largest(sums: &[i64; 48]) -> Keeper
     }
 }
 
+// Half the lead of the largest over the next.
+fn half_lead(best: i64, second: i64) -> i64
+    requires { ⌜ (Within 51539607528 best) × (Within 51539607528 second) ⌝ }
+    ensures { λ r. ⌜ r ≡ quotZ (best -ℤ second) (pos 2) ⌝ }
+{
+    (best - second) / 2
+}
+
 // The answer, by the two largest: tied where they are the same.
 fn answered(t: Keeper) -> SoftAnswer
     requires { ⌜ Wide t ⌝ }
@@ -66,6 +75,7 @@ fn answered(t: Keeper) -> SoftAnswer
     if best == second {
         return SoftAnswer::Refused(Refusal::Tied);
     }
+    let reserve = half_lead(best, second);
     let message = Message(t.at);
     match golay::encode(message) {
         EncodeAnswer::Accepted(codeword) => {
@@ -73,7 +83,7 @@ fn answered(t: Keeper) -> SoftAnswer
                 message: message,
                 codeword: codeword,
                 correlation: best,
-                reserve: (best - second) / 2,
+                reserve: reserve,
             })
         }
         EncodeAnswer::Refused(reason) => SoftAnswer::Refused(reason),

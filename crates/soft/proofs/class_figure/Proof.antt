@@ -38,7 +38,9 @@ returns-3 c =
     figure-above (a .reading .now) (a .class) (long (c .before)) (usable (c .before)) (c .if3 .taken)
 
 column-sums-requires : tie.Need-column-sums-requires
-column-sums-requires c κs = search needs
+column-sums-requires c κs =
+    let tested = c .before in
+    record { long = long tested; range = tested .before .most-negative .ensures .range (tested .if2 .left) }
 
 class-best-requires : tie.Need-class-best-requires
 class-best-requires c κs = search needs

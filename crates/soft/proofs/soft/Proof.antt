@@ -29,7 +29,7 @@ returns-2 c =
     soft-negative (start .args .reading .now) (c .before .before .if1 .left) (sym (c .before .most-negative .ensures .is) ∙ c .if2 .taken)
 
 column-sums-requires : tie.Need-column-sums-requires
-column-sums-requires c κs = search needs
+column-sums-requires c κs = valid c
 
 two-largest-requires : tie.Need-two-largest-requires
 two-largest-requires c κs = search needs

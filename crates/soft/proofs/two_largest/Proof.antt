@@ -1,11 +1,6 @@
 -- `soft::two_largest` meets its contract: the two largest figures, and the winning class's own two, decide.
-use mathlib.Core.List.{List}
-use native.Mathlib.Omega.{arith}
 use borrow.Author.Needs.{needs}
 use lib.Dec.{lit<, lit≤}
-use lib.IntN.{ℤ}
-use lib.ListN.{length}
-use lib.Signed.{_≤ℤ_, _<ℤ_}
 use mir.Syntax.{w64}
 use mir.Val.{SFits}
 use mir.Facts.{toZ-ofZ}

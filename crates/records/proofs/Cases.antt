@@ -1,0 +1,20 @@
+-- The document's capture gives the document's four lines, byte for byte, over any decoder that answers its two readings as the document does.
+-- Assumes nothing.
+use mathlib.Core.Path.{_≡_}
+use mathlib.Core.List.{List}
+use Prim.Native.Nat.{ℕ}
+use lib.IntN.{ℤ, pos}
+use lib.ListN.{replicate}
+use Rattle.golay.specs.Answers.{Answer, accepted, refused}
+use Rattle.records.specs.Records.{readingLength, twosComplement, confidencesOf, standing}
+use Rattle.records.specs.Lines.{decimal}
+use Rattle.records.specs.Capture.{linesIn, output}
+use Rattle.records.specs.Cases.{capture, captureText}
+
+pub capture-output :
+    (decode : List ℤ → Answer (ℕ × ℕ))
+    → decode (replicate readingLength (pos 1)) ≡ accepted (0, 8)
+    → decode (replicate readingLength (pos 0)) ≡ refused 6
+    → output decode capture ≡ captureText
+unfolding twosComplement confidencesOf standing decimal linesIn capture captureText
+capture-output decode ones zeros = rw (ones, zeros)

@@ -1,0 +1,8 @@
+pub mod Buffers
+pub mod Decimal
+pub mod Lengths
+pub mod Readings
+pub mod Standing
+pub mod Texts
+pub mod Decided
+pub mod Cases
