@@ -20,9 +20,11 @@ fn pair_at(reading: &[i32], n: usize) -> Pair
 {
     let a = signed::widened(reading, n);
     let b = signed::widened(reading, n + 1);
+    let sum = a + b;
+    let difference = a - b;
     Pair {
-        sum: a + b,
-        difference: a - b,
+        sum: sum,
+        difference: difference,
     }
 }
 

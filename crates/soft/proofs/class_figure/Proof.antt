@@ -1,6 +1,7 @@
 -- `soft::class_figure` meets its contract: the larger of a class's two largest is its figure.
 use mathlib.Core.Path.{_≡_, ap, _∙_, sym}
 use mathlib.Core.Bool.{false}
+use native.Mathlib.Omega.{arith}
 use borrow.Author.Needs.{needs}
 use lib.ListN.{length}
 use mir.Syntax.{w64}
@@ -35,7 +36,7 @@ returns-2 c =
 returns-3 : tie.Need-returns-3
 returns-3 c =
     let a = c .before .before .before .before .args in
-    figure-above (a .reading .now) (a .class) (long (c .before)) (usable (c .before)) (c .if3 .taken)
+    figure-above (a .reading .now) (a .class) (long (c .before)) (usable (c .before)) (omega (arith, c .if3 .taken))
 
 column-sums-requires : tie.Need-column-sums-requires
 column-sums-requires c κs =
@@ -50,9 +51,8 @@ returns-4 c =
     let tested = c .before .before .before .before in
     let a = tested .before .before .before .before .args in
     let A = c .before .class-best .ensures (a .reading .now) (long (tested .before)) (c .before .before .before .column-sums .ensures) in
-    rw (toZ-ofZ (best-fits c))
-    (figure-within (a .reading .now) (a .class) (long (tested .before)) (usable (tested .before)) (tested .if3 .left)
-    (record { message = _; largest = A .largest; is = ap accepted (A .best) }))
+    figure-within (a .reading .now) (a .class) (long (tested .before)) (usable (tested .before)) (tested .if3 .left)
+    (record { message = _; largest = A .largest; is = ap accepted (toZ-ofZ (best-fits c) ∙ A .best) })
 
 pub class-figure-spec : {M : Type 1} → statement M
 class-figure-spec =

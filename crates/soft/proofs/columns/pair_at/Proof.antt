@@ -17,11 +17,11 @@ add-widened c = search needs
 widened-requires-2 : tie.Need-widened-requires-2
 widened-requires-2 c κs = search needs
 
-add-t6 : tie.Need-add-t6
-add-t6 c = sum-fits (c .before .widened .ensures .1) (c .widened2 .ensures .1) (lit< tt)
+add-sum : tie.Need-add-sum
+add-sum c = sum-fits (c .before .widened .ensures .1) (c .widened2 .ensures .1) (lit< tt)
 
-sub-t7 : tie.Need-sub-t7
-sub-t7 c = diff-fits (c .before .widened .ensures .1) (c .widened2 .ensures .1) (lit< tt)
+sub-difference : tie.Need-sub-difference
+sub-difference c = diff-fits (c .before .widened .ensures .1) (c .widened2 .ensures .1) (lit< tt)
 
 returns : tie.Need-returns
 returns c =
@@ -33,4 +33,4 @@ returns c =
     )
 
 pub pair-at-spec : {M : Type 1} → statement M
-pair-at-spec = tie.close (tie.spec widened-requires add-widened widened-requires-2 add-t6 sub-t7 returns)
+pair-at-spec = tie.close (tie.spec widened-requires add-widened widened-requires-2 add-sum sub-difference returns)
