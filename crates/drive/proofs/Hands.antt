@@ -6,7 +6,8 @@ use Prim.Native.Nat.{ℕ}
 use Rattle.golay.specs.Answers.{Answer, accepted, refused, lent}
 use Rattle.golay.specs.Bytes.{bytesOf}
 use Rattle.golay.specs.Calls.{writeBytesRule, WritesBytes}
-use Rattle.drive.specs.Drive.{HandsBack, returned, output}
+use Rattle.hard.proofs.Decided.{candidates-decided, slots-decided}
+use Rattle.drive.specs.Drive.{HandsBack, HandsBackOne, HandsBackCandidates, returned, output}
 
 module _ {A M : Type 0} {answer : Answer A} {made : A → M} {before : M} where
   pub hands-value : {x : A} → accepted x ≡ answer → HandsBack answer made before (made x) 0
@@ -38,3 +39,22 @@ pub hands-decided :
     → HandsBack answer made before later other
     → (status ≡ other) × (after ≡ later)
 hands-decided p q = (p .status-is ∙ sym (q .status-is), p .output-is ∙ sym (q .output-is))
+
+-- and where the answer is one that a relation allows, if that allows one alone
+pub hands-one-decided :
+    {A M : Type 0} {Allowed : Answer A → Type 0} {made : A → M} {before after later : M} {status other : ℕ}
+    → ((a b : Answer A) → Allowed a → Allowed b → a ≡ b)
+    → HandsBackOne Allowed made before after status
+    → HandsBackOne Allowed made before later other
+    → (status ≡ other) × (after ≡ later)
+hands-one-decided once p q =
+    let e = once (p .answer) (q .answer) (p .allowed) (q .allowed) in
+    hands-decided (rw e at (p .handed)) (q .handed)
+
+pub hands-candidates-decided :
+    {word : ℕ} {before after later : List ℕ} {status other : ℕ}
+    → HandsBackCandidates word before after status
+    → HandsBackCandidates word before later other
+    → (status ≡ other) × (after ≡ later)
+hands-candidates-decided p q =
+    (p .status-is ∙ ap returned (candidates-decided (p .writes) (q .writes)) ∙ sym (q .status-is), slots-decided (p .writes) (q .writes))
