@@ -13,7 +13,8 @@ use mir.Syntax.{w32}
 use mir.Val.{SFits}
 use Rattle.signed.specs.Within.{Within}
 use Rattle.signed.proofs.Locals.{fit-hi, fit-lo}
-use Rattle.reading.specs.Checks.{isMostNegative, mostNegative}
+use Rattle.contest.specs.Readings.{Reading}
+use Rattle.reading.specs.Checks.{isMostNegative, mostNegative, Checked}
 
 or-true : (b : Bool) → (b || true) ≡ true
 or-true true = refl
@@ -38,3 +39,7 @@ in-range (negsuc n) f d = record { within = go (fit-lo f) }
   where
     go : suc n ≤ 2147483648 → suc n ≤ 2147483647
     go h = let g : n ≢ 2147483647 = λ e. d (ap negsuc e) in omega arith
+
+-- a reading of the right length in which none was found is a valid one
+pub checked-reading : (xs : List ℤ) (r : Bool) → length xs ≡ 24 → Checked xs r → r ≡ false → Reading 2147483647 24 xs
+checked-reading xs r l c e = record { long = l; range = c .range e }

@@ -97,7 +97,8 @@ pub fn soft(reading: &[i32]) -> SoftAnswer
     if reading.len() != POSITIONS {
         return SoftAnswer::Refused(Refusal::WrongLength);
     }
-    if reading::most_negative(reading) {
+    let negative = reading::most_negative(reading);
+    if negative {
         return SoftAnswer::Refused(Refusal::MostNegative);
     }
     let sums = column_sums(reading);
@@ -118,8 +119,8 @@ pub fn class_figure(reading: &[i32], class: u32) -> ClassFigureAnswer
     if class >= CLASSES {
         return ClassFigureAnswer::Refused(Refusal::ClassAbove);
     }
-    let sums = column_sums(reading);
-    let t = class_best(&sums, class);
+    let columns = column_sums(reading);
+    let t = class_best(&columns, class);
     let figure = t.best;
     ClassFigureAnswer::Accepted(figure)
 }

@@ -2,6 +2,7 @@
 use mathlib.Core.Path.{_∙_, sym}
 use borrow.Author.Needs.{needs}
 use Rattle.contest.specs.Readings.{Reading, scores}
+use Rattle.reading.proofs.Checking.{checked-reading}
 use Rattle.code.specs.Code.{messages}
 use Rattle.classes.specs.Codewords.{word}
 use Rattle.soft.specs.Details.{Tops}
@@ -10,8 +11,12 @@ use Rattle.soft.proofs.Rules.{soft-length, soft-negative, soft-decides}
 use Rattle.soft.proofs.soft.Statement.{statement}
 use Rattle.soft.proofs.soft.Tie as tie
 
+-- the sums are taken of a reading that was checked: found with no path, so that this holds or falls by the check alone
+column-sums-requires : tie.Need-column-sums-requires
+column-sums-requires c κs = search (needs, checked-reading)
+
 valid : (c : tie.Else2) → Reading 2147483647 24 (c .before .before .before .args .reading .now)
-valid c = record { long = c .before .before .if1 .left; range = c .before .most-negative .ensures .range (c .if2 .left) }
+valid c = checked-reading _ _ (c .before .before .if1 .left) (c .before .most-negative .ensures) (c .if2 .left)
 
 found : (c : tie.After-two-largest)
     → Tops (scores word (c .before .before .before .before .before .before .args .reading .now)) 0 messages (c .two-largest .result)
@@ -27,9 +32,6 @@ returns-2 : tie.Need-returns-2
 returns-2 c =
     let start = c .before .before .before in
     soft-negative (start .args .reading .now) (c .before .before .if1 .left) (sym (c .before .most-negative .ensures .is) ∙ c .if2 .taken)
-
-column-sums-requires : tie.Need-column-sums-requires
-column-sums-requires c κs = valid c
 
 two-largest-requires : tie.Need-two-largest-requires
 two-largest-requires c κs = search needs
