@@ -6,14 +6,14 @@ static uint32_t codewords[MESSAGES];
 
 uint32_t field_decode(const int32_t *reading)
 {
-    int32_t best = INT32_MIN;
+    int32_t best = INT32_MIN, x[POSITIONS];
     uint32_t at = 0;
+    for (int i = 0; i < POSITIONS; i++)
+        x[i] = reading[i] / 65536;
     for (uint32_t m = 0; m < MESSAGES; m++) {
         int32_t sum = 0;
-        for (int i = 0; i < POSITIONS; i++) {
-            int32_t x = reading[i] / 65536;
-            sum += codewords[m] >> (23 - i) & 1 ? -x : x;
-        }
+        for (int i = 0; i < POSITIONS; i++)
+            sum += codewords[m] >> (23 - i) & 1 ? -x[i] : x[i];
         if (sum > best) {
             best = sum;
             at = m;
