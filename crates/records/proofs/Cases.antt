@@ -8,7 +8,7 @@ use lib.ListN.{replicate}
 use Rattle.golay.specs.Answers.{Answer, accepted, refused}
 use Rattle.records.specs.Records.{readingLength, twosComplement, confidencesOf, standing}
 use Rattle.records.specs.Lines.{decimal}
-use Rattle.records.specs.Capture.{linesIn, output}
+use Rattle.records.specs.Capture.{runIn, output}
 use Rattle.records.specs.Cases.{capture, captureText}
 
 pub capture-output :
@@ -16,5 +16,5 @@ pub capture-output :
     → decode (replicate readingLength (pos 1)) ≡ accepted (0, 8)
     → decode (replicate readingLength (pos 0)) ≡ refused 6
     → output decode capture ≡ captureText
-unfolding twosComplement confidencesOf standing decimal linesIn capture captureText
+unfolding twosComplement confidencesOf standing decimal runIn capture captureText
 capture-output decode ones zeros = rw (ones, zeros)

@@ -1,4 +1,4 @@
--- How long a line is: the sum of its parts, and never more than 36 bytes.
+-- How long a line is: the sum of its parts, and never more than the longest.
 -- Assumes nothing.
 use mathlib.Core.Path.{_≡_}
 use mathlib.Core.List.{List}
@@ -7,7 +7,7 @@ use native.Mathlib.Nat.{lt-of-lt-of-le}
 use native.Mathlib.Omega.{arith}
 use lib.Dec.{lit≤}
 use lib.ListN.{length, length-append}
-use Rattle.records.specs.Lines.{decimal, header, lineOf, lineOfTwo, acceptedLine, refusedLine, stoppedLine}
+use Rattle.records.specs.Lines.{decimal, header, lineOf, lineOfTwo, acceptedLine, refusedLine, stoppedLine, longest}
 use Rattle.records.proofs.Decimal.{decimal-length}
 
 pub length-one : (word : List ℕ) (n : ℕ) → length (lineOf word n) ≡ length word + length (decimal n) + 1
@@ -17,10 +17,6 @@ pub length-two :
     (word : List ℕ) (m : ℕ) (between : List ℕ) (n : ℕ)
     → length (lineOfTwo word m between n) ≡ length word + length (decimal m) + length between + length (decimal n) + 1
 length-two word m between n = simp length-append
-
--- the most bytes that a line takes: "stopped ", three digits, " at ", twenty digits and a line feed
-abbrev pub longest : ℕ
-longest = 36
 
 -- a number of a width in bits, by its digits
 below : (bits w n : ℕ) → 1 ≤ w → 2 ^ bits ≤ 10 ^ w → n < 2 ^ bits → length (decimal n) ≤ w

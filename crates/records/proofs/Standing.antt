@@ -92,6 +92,20 @@ stands-front bytes rest at h =
 never : {B : Type 0} → _≡_ {A = ℕ} 0 1 → B
 never e = let z : ⊥ = omega arith in absurd z
 
+-- the run ends only where nothing is left
+pub ended-none : (left : List ℕ) → standing left ≡ ended → length left ≡ 0
+unfolding standing
+ended-none [] e = refl
+ended-none (a ∷ []) e = never (cc)
+ended-none (a ∷ b ∷ rest) e = cases (isMark a b) (leb recordLength (2 + length rest)) e
+  where
+    cases : (marked long : Bool)
+        → cond marked (cond long (whole (confidencesOf readingLength rest)) (stopped 10)) (stopped 9) ≡ ended
+        → length (a ∷ b ∷ rest) ≡ 0
+    cases true true e = never (cc)
+    cases true false e = never (cc)
+    cases false long e = never (cc)
+
 -- a whole record has its bytes, and they hold its confidences
 pub whole-known :
     (left : List ℕ) {reading : List ℤ}

@@ -1,5 +1,5 @@
 -- The whole output of a capture, as a function of its bytes, over any decoder: what a reading is answered by.
-use mathlib.Core.Path.{_≡_}
+use mathlib.Core.Bool.{Bool, true, false}
 use mathlib.Core.List.{List, [], _++_}
 use Prim.Native.Nat.{ℕ, zero, suc, _+_}
 use lib.IntN.{ℤ}
@@ -8,32 +8,43 @@ use Rattle.golay.specs.Answers.{Answer}
 use Rattle.records.specs.Records.{Standing, ended, stopped, whole, standing, recordLength}
 use Rattle.records.specs.Lines.{header, stoppedLine, answerLine}
 
-module _ (decode : List ℤ → Answer (ℕ × ℕ)) where
-  -- the text from a record's start, at an offset of the capture; later is the text after a whole record
-  abbrev pub textOf : ℕ → List ℕ → Standing (List ℤ) → List ℕ
-  textOf offset later ended = []
-  textOf offset later (stopped n) = stoppedLine n offset
-  textOf offset later (whole reading) = answerLine (decode reading) ++ later
+-- what is made of a run: at its end, at a stop with its number and offset, and of a record's reading and the rest of the run
+pub record Telling (A : Type 0) : Type 0 where
+  pub atEnd : A
+  pub atStop : ℕ → ℕ → A
+  pub atRecord : List ℤ → A → A
 
-  -- the text of at most fuel records and where they stop
-  unfoldable pub linesIn : ℕ → ℕ → List ℕ → List ℕ
-  linesIn zero offset left = []
-  linesIn (suc fuel) offset left = textOf offset (linesIn fuel (offset + recordLength) (drop recordLength left)) (standing left)
+module _ {A : Type 0} (t : Telling A) where
+  -- the run from a record's start, at an offset of the capture; later is the run after a whole record
+  abbrev pub runAt : ℕ → A → Standing (List ℤ) → A
+  runAt offset later ended = t .atEnd
+  runAt offset later (stopped n) = t .atStop n offset
+  runAt offset later (whole reading) = t .atRecord reading later
+
+  -- over at most fuel records
+  unfoldable pub runIn : ℕ → ℕ → List ℕ → A
+  runIn zero offset left = t .atEnd
+  runIn (suc fuel) offset left = runAt offset (runIn fuel (offset + recordLength) (drop recordLength left)) (standing left)
 
   -- no capture has more records than bytes
+  abbrev pub runFrom : ℕ → List ℕ → A
+  runFrom offset left = runIn (length left) offset left
+
+-- "Numbers 9 and 10 stop the run."
+abbrev pub stopping : Telling Bool
+stopping = record { atEnd = false; atStop = λ n offset. true; atRecord = λ reading later. later }
+
+abbrev pub stopsFrom : ℕ → List ℕ → Bool
+stopsFrom = runFrom stopping
+
+module _ (decode : List ℤ → Answer (ℕ × ℕ)) where
+  -- one line for each record, and a line where the run stopped
+  abbrev pub lines : Telling (List ℕ)
+  lines = record { atEnd = []; atStop = stoppedLine; atRecord = λ reading later. answerLine (decode reading) ++ later }
+
   abbrev pub linesFrom : ℕ → List ℕ → List ℕ
-  linesFrom offset left = linesIn (length left) offset left
+  linesFrom = runFrom lines
 
   -- "the whole output"
   abbrev pub output : List ℕ → List ℕ
   output bytes = header ++ linesFrom 0 bytes
-
--- n whole records, one after the other, and nothing else
-pub data Records : ℕ → List ℕ → Type 0 where
-  none : Records 0 []
-  more :
-      (first : List ℕ) {n : ℕ} {later : List ℕ} {reading : List ℤ}
-      → length first ≡ recordLength
-      → standing first ≡ whole reading
-      → Records n later
-      → Records (suc n) (first ++ later)

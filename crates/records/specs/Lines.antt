@@ -45,3 +45,7 @@ stoppedLine number offset = lineOfTwo (ascii "stopped ") number (ascii " at ") o
 abbrev pub answerLine : Answer (ℕ × ℕ) → List ℕ
 answerLine (accepted x) = acceptedLine (x .0) (x .1)
 answerLine (refused n) = refusedLine n
+
+-- the most bytes that a line takes: "stopped ", three digits, " at ", twenty digits and a line feed
+abbrev pub longest : ℕ
+longest = 36

@@ -1,0 +1,4 @@
+mod run;
+
+fn main() {
+}

@@ -1,0 +1,69 @@
+// The run over bytes of a capture: each record's line, and the line where it stopped, into a lent buffer. All that the program prints is made
+// here and in `records`.
+ghost use mathlib.Core.Path.{_≡_};
+ghost use mathlib.Core.List.{List};
+ghost use Prim.Native.Nat.{ℕ, _+_, _-_, _≤_};
+ghost use lib.IntN.{ℤ};
+ghost use lib.ListN.{length, take, drop};
+ghost use Rattle.golay.specs.Answers.{Answer};
+ghost use Rattle.records.specs.Lines.{answerLine, longest};
+ghost use Rattle.records.specs.Buffers.{Puts};
+ghost use Rattle.capture.specs.Decoding.{Decoder};
+ghost use Rattle.capture.specs.Runs.{Room, Runs};
+use records::kinds::Step;
+use records::lines;
+use soft::kinds::SoftAnswer;
+
+// How many bytes of text the run put into the buffer, and whether it stopped with 9 or 10.
+pub struct Run {
+    pub put: usize,
+    pub stopped: bool,
+}
+
+// The line of a reading's answer, where there is room for any line.
+fn write_answer(reading: &[i32], out: &mut [u8], at: usize) -> usize
+    requires { ⌜ at + longest ≤ length (now out) ⌝ }
+    ensures { λ r. ⌜ r ≤ at + longest ⌝ }
+    ensures { λ r. ⌜ ((decode : List ℤ → Answer (ℕ × ℕ)) → Decoder decode → Puts (answerLine (decode (now (reading .entry)))) (now (out .entry)) at (now (out .exit)) r) ⌝ }
+{
+    match soft::soft(reading) {
+        SoftAnswer::Accepted(values) => {
+            lines::write_accepted(values.message.0, values.reserve as u64, out, at)
+        }
+        SoftAnswer::Refused(reason) => {
+            lines::write_refused(golay::refusal_number(reason), out, at)
+        }
+    }
+}
+
+// The run over bytes that begin at an offset of the capture: the text of them all, at the start of the buffer.
+pub fn run(bytes: &[u8], offset: u64, out: &mut [u8]) -> Run
+    requires { ⌜ Room offset (now bytes) (now out) ⌝ }
+    ensures { λ r. ⌜ Runs offset (now (bytes .entry)) (now (out .entry)) (now (out .exit)) r ⌝ }
+{
+    let mut at: usize = 0;
+    let mut to: usize = 0;
+    loop {
+        match records::step(bytes, at) {
+            Step::Record(next) => {
+                let reading = records::confidences(bytes, at);
+                to = write_answer(&reading, out, to);
+                at = next;
+            }
+            Step::End => {
+                return Run {
+                    put: to,
+                    stopped: false,
+                };
+            }
+            Step::Stopped(reason) => {
+                let number = golay::refusal_number(reason);
+                let put = lines::write_stopped(number, offset + at as u64, out, to);
+                return Run {
+                    put: put,
+                    stopped: true,
+                };
+            }
+        }
+    }
+}
