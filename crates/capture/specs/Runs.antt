@@ -11,7 +11,7 @@ use Rattle.records.specs.Lines.{longest}
 use Rattle.records.specs.Buffers.{Puts}
 use Rattle.records.specs.Capture.{stopsFrom, linesFrom}
 use Rattle.capture.specs.Decoding.{Decoder}
-use Rattle.capture.specs.declared.run.Run.{Run}
+use Rattle.capture.specs.declared.run.Outcome.{Outcome}
 
 -- a record has more bytes than a line: the text of some bytes fits a buffer of as many and one line more. No offset passes 64 bits.
 pub record Room (offset : ℕ) (bytes buffer : List ℕ) : Type 0 where
@@ -19,7 +19,7 @@ pub record Room (offset : ℕ) (bytes buffer : List ℕ) : Type 0 where
   pub offsets : offset + length bytes < 2 ^ 64
 
 -- the text of the bytes at the start of the buffer, how long it is, and whether the run stopped
-pub record Runs (offset : ℕ) (bytes before after : List ℕ) (r : Run) : Type 0 where
+pub record Runs (offset : ℕ) (bytes before after : List ℕ) (r : Outcome) : Type 0 where
   pub text : (decode : List ℤ → Answer (ℕ × ℕ)) → Decoder decode → Puts (linesFrom decode offset bytes) before 0 after (r .put)
   pub stopped : r .stopped ≡ stopsFrom offset bytes
 

@@ -15,7 +15,7 @@ use records::lines;
 use soft::kinds::SoftAnswer;
 
 // How many bytes of text the run put into the buffer, and whether it stopped with 9 or 10.
-pub struct Run {
+pub struct Outcome {
     pub put: usize,
     pub stopped: bool,
 }
@@ -37,7 +37,7 @@ fn write_answer(reading: &[i32], out: &mut [u8], at: usize) -> usize
 }
 
 // The run over bytes that begin at an offset of the capture: the text of them all, at the start of the buffer.
-pub fn run(bytes: &[u8], offset: u64, out: &mut [u8]) -> Run
+pub fn run(bytes: &[u8], offset: u64, out: &mut [u8]) -> Outcome
     requires { ⌜ Room offset (now bytes) (now out) ⌝ }
     ensures { λ r. ⌜ Runs offset (now (bytes .entry)) (now (out .entry)) (now (out .exit)) r ⌝ }
 {
@@ -51,7 +51,7 @@ pub fn run(bytes: &[u8], offset: u64, out: &mut [u8]) -> Run
                 at = next;
             }
             Step::End => {
-                return Run {
+                return Outcome {
                     put: to,
                     stopped: false,
                 };
@@ -59,7 +59,7 @@ pub fn run(bytes: &[u8], offset: u64, out: &mut [u8]) -> Run
             Step::Stopped(reason) => {
                 let number = golay::refusal_number(reason);
                 let put = lines::write_stopped(number, offset + at as u64, out, to);
-                return Run {
+                return Outcome {
                     put: put,
                     stopped: true,
                 };

@@ -26,6 +26,15 @@ unfolding InRange
 at-range B [] w = tt
 at-range B (x ∷ xs) w = (w 0 (omega arith), at-range B xs (λ k h. w (suc k) (omega arith)))
 
+-- every reading lies in some range: that of its weight
+weight-at : (xs : List ℤ) (k : ℕ) → natAbs (getD xs k (pos 0)) ≤ weight xs
+weight-at [] k = omega arith
+weight-at (x ∷ xs) zero = omega arith
+weight-at (x ∷ xs) (suc k) = omega (arith, weight-at xs k)
+
+pub own-range : (xs : List ℤ) → InRange (weight xs) xs
+own-range xs = at-range (weight xs) xs (λ k h. record { within = weight-at xs k })
+
 pub weight-range : (B : ℕ) (xs : List ℤ) → InRange B xs → weight xs ≤ length xs * B
 unfolding InRange
 weight-range B [] r = omega arith
