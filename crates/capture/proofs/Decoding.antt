@@ -2,12 +2,17 @@
 -- Assumes nothing.
 use mathlib.Core.Path.{_≡_, refl, sym, ap, _∙_}
 use mathlib.Core.List.{List}
-use Prim.Native.Nat.{ℕ}
+use Prim.Native.Nat.{ℕ, _+_, _≤_}
+use native.Mathlib.Omega.{arith}
 use lib.IntN.{ℤ}
+use lib.ListN.{length}
 use Rattle.golay.specs.Answers.{Answer}
 use Rattle.soft.specs.declared.kinds.Soft.{Soft}
 use Rattle.soft.specs.Calls.{SoftRule}
 use Rattle.soft.proofs.Decided.{soft-once, soft-exists}
+use Rattle.records.specs.Lines.{answerLine, longest}
+use Rattle.records.specs.Buffers.{Puts, Writes}
+use Rattle.records.proofs.Buffers.{puts-text, writes-puts}
 use Rattle.capture.specs.Decoding.{messageAndReserve, Decoder}
 
 pub a-decoder : (decode : List ℤ → Answer (ℕ × ℕ)) × Decoder decode
@@ -16,9 +21,23 @@ a-decoder = (
   record { soft = λ xs. soft-exists xs .0; allowed = λ xs. soft-exists xs .1; told = λ xs. refl },
 )
 
-module _ {decode : List ℤ → Answer (ℕ × ℕ)} (D : Decoder decode) where
+module _ (decode : List ℤ → Answer (ℕ × ℕ)) (D : Decoder decode) where
   pub tells : (xs : List ℤ) (a : Answer Soft) → SoftRule xs a → decode xs ≡ messageAndReserve a
   tells xs a r = D .told xs ∙ ap messageAndReserve (soft-once xs (D .soft xs) a (D .allowed xs) r)
 
 pub one-decoder : (f g : List ℤ → Answer (ℕ × ℕ)) → Decoder f → Decoder g → (xs : List ℤ) → f xs ≡ g xs
-one-decoder f g F G xs = tells F xs (G .soft xs) (G .allowed xs) ∙ sym (G .told xs)
+one-decoder f g F G xs = tells f F xs (G .soft xs) (G .allowed xs) ∙ sym (G .told xs)
+
+-- an answer's line, where there was room for any line
+pub answer-line :
+    (xs : List ℤ) (a : Answer Soft) {text before after : List ℕ} {at next : ℕ}
+    → SoftRule xs a
+    → text ≡ answerLine (messageAndReserve a)
+    → length text ≤ longest
+    → at + longest ≤ length before
+    → Writes text before at after next
+    → (next ≤ at + longest)
+    × ((decode : List ℤ → Answer (ℕ × ℕ)) → Decoder decode → Puts (answerLine (decode xs)) before at after next)
+answer-line xs a {text} {before} {at = at} r e short room w =
+    let p = writes-puts {text = text} longest short room w in
+    (omega (arith, p .place), λ decode D. puts-text (e ∙ ap answerLine (sym (tells decode D xs a r))) p)

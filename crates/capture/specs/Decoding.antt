@@ -7,6 +7,7 @@ use Rattle.golay.specs.Answers.{Answer, accepted, refused}
 use Rattle.soft.specs.declared.kinds.Soft.{Soft}
 use Rattle.soft.specs.Calls.{SoftRule}
 
+-- a reserve is at least 1, so its size is the number itself
 abbrev pub messageAndReserve : Answer Soft → Answer (ℕ × ℕ)
 messageAndReserve (accepted s) = accepted (s .message .0, natAbs (s .reserve))
 messageAndReserve (refused n) = refused n

@@ -28,7 +28,8 @@ fn write_answer(reading: &[i32], out: &mut [u8], at: usize) -> usize
 {
     match soft::soft(reading) {
         SoftAnswer::Accepted(values) => {
-            lines::write_accepted(values.message.0, values.reserve as u64, out, at)
+            let reserve = signed::size(values.reserve);
+            lines::write_accepted(values.message.0, reserve, out, at)
         }
         SoftAnswer::Refused(reason) => {
             lines::write_refused(golay::refusal_number(reason), out, at)

@@ -4,13 +4,11 @@ use mathlib.Core.Path.{_≡_, refl, sym, ap, _∙_}
 use mathlib.Core.Bool.{Bool, true, false}
 use mathlib.Core.List.{List}
 use Prim.Native.Nat.{ℕ}
-use native.Mathlib.Omega.{arith}
 use lib.Dec.{eqb}
-use lib.IntN.{ℤ, pos}
+use lib.IntN.{ℤ}
 use lib.ListN.{length}
 use borrow.Author.Tests.{eqb-true, not-false}
 use Rattle.signed.proofs.Parts.{ints}
-use Rattle.contest.specs.Answers as contest
 use Rattle.contest.proofs.Bounds.{own-range}
 use Rattle.contest.proofs.Decided.{one-answer, decided}
 use Rattle.code.specs.Code.{messages}
@@ -27,7 +25,7 @@ use Rattle.soft.specs.declared.kinds.ClassFigureAnswer.{ClassFigureAnswe
 use Rattle.soft.specs.declared.kinds.ClassFigureAnswer.the-variants as figure
 use Rattle.soft.specs.Answers.{softAnswer, classFigureAnswer}
 use Rattle.reading.specs.Checks.{wrongLength, mostNegative}
-use Rattle.soft.specs.Calls.{classAbove, values, told, Decides, SoftRule, HasFigure, ClassFigureRule}
+use Rattle.soft.specs.Calls.{classAbove, told, Decides, SoftRule, HasFigure, ClassFigureRule}
 
 decides-once : (xs : List ℤ) (a b : Answer Soft) → Decides xs a → Decides xs b → a ≡ b
 decides-once xs a b p q = p .is ∙ ap (told xs) (one-answer messages word xs (p .outcome) (q .outcome) (p .answers) (q .answers)) ∙ sym (q .is)
@@ -52,23 +50,6 @@ soft-exists xs = go (wrongLength xs) (mostNegative xs) refl
     go false false e =
         let d = decided family (record { long = eqb-true (length xs) 24 (not-false (eqb (length xs) 24) e); range = own-range xs }) in
         (told xs (d .0), record { outcome = d .0; answers = d .1; is = refl })
-
--- an accepted reserve is a natural number
-pub soft-reserve : (xs : List ℤ) (s : Soft) → SoftRule xs (accepted s) → (ρ : ℕ) × (s .reserve ≡ pos ρ)
-unfolding SoftRule
-soft-reserve xs s = go (wrongLength xs) (mostNegative xs)
-  where
-    never : {n : ℕ} → accepted s ≡ refused n → (ρ : ℕ) × (s .reserve ≡ pos ρ)
-    never e = let z : _≡_ {A = ℕ} 0 1 = cc in absurd (omega arith)
-
-    found : (p : contest.Answer) → accepted s ≡ told xs p → (ρ : ℕ) × (s .reserve ≡ pos ρ)
-    found (contest.accepted m ρ) e = let g : s ≡ values xs m ρ = cc in (ρ, ap (λ (t : Soft). t .reserve) g)
-    found contest.tied e = never e
-
-    go : (w m : Bool) → Refuse WrongLength w (Refuse MostNegative m (Decides xs)) (accepted s) → (ρ : ℕ) × (s .reserve ≡ pos ρ)
-    go true m e = never e
-    go false true e = never e
-    go false false d = found (d .outcome) (d .is)
 
 classFigure-once : (xs : List ℤ) (k : ℕ) (a b : Answer ℤ) → ClassFigureRule xs k a → ClassFigureRule xs k b → a ≡ b
 unfolding ClassFigureRule
