@@ -1,2 +1,3 @@
 pub mod Decoding
 pub mod Upto
+pub mod Turns

@@ -27,13 +27,21 @@ pub record Runs (offset : ℕ) (bytes before after : List ℕ) (r : Outcome) : T
 abbrev pub wholes : ℕ → ℕ
 wholes n = n - n % recordLength
 
+-- one turn over the bytes that are held: the run over the whole records among them; and what is left of them stands in front
+pub record Turns (offset : ℕ) (bytes before after kept : List ℕ) (r : Outcome) : Type 0 where
+  pub ran : Runs offset (take (wholes (length bytes)) bytes) before after r
+  pub left : take (length bytes % recordLength) kept ≡ drop (wholes (length bytes)) bytes
+
+-- the pieces in one
+abbrev pub joined : List (List ℕ) → List ℕ
+joined [] = []
+joined (piece ∷ pieces) = piece ++ joined pieces
+
 module _ (decode : List ℤ → Answer (ℕ × ℕ)) where
-  -- the program's turns, each on what a read brought after what the turn before left: the text of the whole records, then the next turn on
-  -- what is left; at the end of the input, the text of that
+  -- the text of all turns, each over what the one before left and the piece that a read brought; at the end of the input, of what is left
   unfoldable pub turnsFrom : ℕ → List ℕ → List (List ℕ) → List ℕ
   turnsFrom offset held [] = linesFrom decode offset held
   turnsFrom offset held (piece ∷ pieces) =
       let bytes = held ++ piece in
       let n = wholes (length bytes) in
-      linesFrom decode offset (take n bytes)
-      ++ cond (stopsFrom offset (take n bytes)) [] (turnsFrom (offset + n) (drop n bytes) pieces)
+      linesFrom decode offset (take n bytes) ++ cond (stopsFrom offset (take n bytes)) [] (turnsFrom (offset + n) (drop n bytes) pieces)

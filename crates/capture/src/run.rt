@@ -5,14 +5,17 @@ ghost use mathlib.Core.List.{List};
 ghost use Prim.Native.Nat.{ℕ, _+_, _-_, _≤_};
 ghost use lib.IntN.{ℤ};
 ghost use lib.ListN.{length, take, drop};
+ghost use lib.Seq.{paste};
 ghost use Rattle.golay.specs.Answers.{Answer};
 ghost use Rattle.records.specs.Lines.{answerLine, longest};
 ghost use Rattle.records.specs.Buffers.{Puts};
 ghost use Rattle.capture.specs.Decoding.{Decoder};
-ghost use Rattle.capture.specs.Runs.{Room, Runs};
+ghost use Rattle.capture.specs.Runs.{Room, Runs, Turns};
 use records::kinds::Step;
 use records::lines;
 use soft::kinds::SoftAnswer;
+
+const RECORD: usize = 98;
 
 // How many bytes of text the run put into the buffer, and whether it stopped with 9 or 10.
 pub struct Outcome {
@@ -67,4 +70,29 @@ pub fn run(bytes: &[u8], offset: u64, out: &mut [u8]) -> Outcome
             }
         }
     }
+}
+
+// Moves the bytes from a place up to an end to the front.
+fn keep(held: &mut [u8], from: usize, end: usize)
+    requires { ⌜ from ≤ end ⌝ }
+    requires { ⌜ end ≤ length (now held) ⌝ }
+    ensures { λ _. ⌜ now (held .exit) ≡ paste (now (held .entry)) 0 (drop from (now (held .entry))) (end - from) ⌝ }
+{
+    let mut i: usize = 0;
+    while i < end - from {
+        held[i] = held[from + i];
+        i += 1;
+    }
+}
+
+// The run over the whole records among the first bytes that are held; the rest of these bytes moves to the front.
+pub fn turn(held: &mut [u8], count: usize, offset: u64, out: &mut [u8]) -> Outcome
+    requires { ⌜ count ≤ length (now held) ⌝ }
+    requires { ⌜ Room offset (take count (now held)) (now out) ⌝ }
+    ensures { λ r. ⌜ Turns offset (take count (now (held .entry))) (now (out .entry)) (now (out .exit)) (now (held .exit)) r ⌝ }
+{
+    let whole = count - count % RECORD;
+    let outcome = run(&held[..whole], offset, out);
+    keep(held, whole, count);
+    outcome
 }

@@ -1,0 +1,59 @@
+-- `capture::run::turn` meets its contract: the run is over the whole records in front, and what is kept is the rest.
+-- Assumes nothing.
+use mathlib.Core.Path.{sym}
+use Prim.Native.Nat.{_≤_}
+use native.Mathlib.Omega.{arith}
+use borrow.Author.Needs.{needs}
+use lib.ListN.{length}
+use Rattle.capture.proofs.Turns.{long, long-front, turn-done}
+use Rattle.capture.proofs.run.turn.Statement.{statement}
+use Rattle.capture.proofs.run.turn.Tie as tie
+
+sub-whole : tie.Need-sub-whole
+sub-whole c = search needs
+
+slice-reshare-prefix-run : tie.Need-slice-reshare-prefix-run
+slice-reshare-prefix-run c = search needs
+
+slice-aggregate-run : tie.Need-slice-aggregate-run
+slice-aggregate-run c = let args = c .before .before .before .args in sym (long-front (args .held .now) (args .count) (search needs))
+
+run-requires : tie.Need-run-requires
+run-requires c κs =
+    let entered = c .before .before .before .before in
+    let held = entered .args .held .now in
+    let count = entered .args .count in
+    let h : count ≤ length held = search needs in
+    let room = entered .pre .1 in
+    record {
+      lines = omega (arith, room .lines, long held count h, long-front held count h);
+      offsets = omega (arith, room .offsets, long held count h, long-front held count h);
+    }
+
+keep-requires : tie.Need-keep-requires
+keep-requires c κs = search needs
+
+same-length : tie.Need-same-length
+same-length c = search needs
+
+same-length-2 : tie.Need-same-length-2
+same-length-2 c = search needs
+
+returns : tie.Need-returns
+returns c =
+    let ran = c .before .before .before .before .before .before in
+    let args = ran .before .before .before .before .before .args in
+    turn-done (args .held .now) (args .count) (search needs) (args .offset) (ran .run .result) (ran .run .ensures) (c .before .before .keep .ensures)
+
+pub turn-spec : {M : Type 1} → statement M
+turn-spec =
+    tie.close
+    (tie.spec
+    sub-whole
+    slice-reshare-prefix-run
+    slice-aggregate-run
+    run-requires
+    keep-requires
+    same-length
+    same-length-2
+    returns)
