@@ -13,7 +13,9 @@ use Rattle.soft.proofs.Decided.{soft-once, soft-exists}
 use Rattle.records.specs.Lines.{answerLine, longest}
 use Rattle.records.specs.Buffers.{Puts, Writes}
 use Rattle.records.proofs.Buffers.{puts-text, writes-puts}
+use Rattle.capture.specs.declared.run.Outcome.{Outcome}
 use Rattle.capture.specs.Decoding.{messageAndReserve, Decoder}
+use Rattle.capture.specs.Runs.{Runs}
 
 pub a-decoder : (decode : List ℤ → Answer (ℕ × ℕ)) × Decoder decode
 a-decoder = (
@@ -41,3 +43,7 @@ pub answer-line :
 answer-line xs a {text} {before} {at = at} r e short room w =
     let p = writes-puts {text = text} longest short room w in
     (omega (arith, p .place), λ decode D. puts-text (e ∙ ap answerLine (sym (tells decode D xs a r))) p)
+
+-- the text of a run fits its buffer
+pub run-fits : {offset : ℕ} {bytes before after : List ℕ} {r : Outcome} → Runs offset bytes before after r → r .put ≤ length before
+run-fits R = let p = R .text (a-decoder .0) (a-decoder .1) in omega (arith, p .room, p .place)

@@ -21,7 +21,7 @@ module _ (held : List ℕ) (count : ℕ) (h : count ≤ length held) where
   pub long-front : length (take (wholes count) held) ≡ wholes count
   long-front = length-take-le (wholes count) held (omega arith)
 
-  pub long : length (take count held) ≡ count
+  long : length (take count held) ≡ count
   long = length-take-le count held h
 
   front : take (wholes count) held ≡ take (wholes count) (take count held)
@@ -38,7 +38,7 @@ module _ (held : List ℕ) (count : ℕ) (h : count ≤ length held) where
       (offset : ℕ) {before after kept : List ℕ} (r : Outcome)
       → Runs offset (take (wholes count) held) before after r
       → kept ≡ paste held 0 (drop (wholes count) held) (count - wholes count)
-      → Turns offset (take count held) before after kept r
+      → Turns offset (take count held) before after kept (record { outcome = r; left = count % recordLength; next = offset + wholes count })
   turn-done offset r ran e =
       let s = drop (wholes count) held in
       let k = count % recordLength in
@@ -49,7 +49,7 @@ module _ (held : List ℕ) (count : ℕ) (h : count ≤ length held) where
       ∙ ap (λ (j : ℕ). take j (paste held 0 s k)) (sym (zero-add k))
       ∙ take-paste held 0 s k (omega arith) l
       ∙ sym rest in
-      record { ran = rw (long, ← front) ran; left = rw long kept }
+      record { ran = rw (long, ← front) ran; count = rw long; kept-left = rw long kept; next = rw long }
 
 module _ (decode : List ℤ → Answer (ℕ × ℕ)) where
   pub turns-text : (offset : ℕ) (held : List ℕ) (pieces : List (List ℕ)) → turnsFrom decode offset held pieces ≡ linesFrom decode offset (held ++ joined pieces)

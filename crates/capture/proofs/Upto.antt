@@ -89,15 +89,15 @@ module _ {offset : ℕ} {bytes before after : List ℕ} {at to : ℕ} (U : Upto 
 
   pub up-stopped :
       {later : List ℕ} {n last : ℕ}
-      → Room offset bytes before
+      → Room offset (length bytes) (length before)
       → nextFrom at (standsAt bytes at) ≡ stopped n
       → n < 2 ^ 8
       → Writes (stoppedLine n (offset + at)) after to later last
       → Runs offset bytes before later (record { put = last; stopped = true })
   up-stopped {later} {n} room e small w =
       let line = writes-puts longest
-          (stopped-short n (offset + at) small (omega (arith, room .offsets, U .within)))
-          (omega (arith, room .lines, U .short, U .within, U .long)) w in
+      (stopped-short n (offset + at) small (omega (arith, room .offsets, U .within)))
+      (omega (arith, room .lines, U .short, U .within, U .long)) w in
       record {
         text = λ decode D.
             let t = U .told decode D in

@@ -12,11 +12,13 @@ use Rattle.records.specs.Buffers.{Puts}
 use Rattle.records.specs.Capture.{stopsFrom, linesFrom}
 use Rattle.capture.specs.Decoding.{Decoder}
 use Rattle.capture.specs.declared.run.Outcome.{Outcome}
+use Rattle.capture.specs.declared.run.Turned.{Turned}
 
--- a record has more bytes than a line: the text of some bytes fits a buffer of as many and one line more. No offset passes 64 bits.
-pub record Room (offset : ℕ) (bytes buffer : List ℕ) : Type 0 where
-  pub lines : length bytes + longest ≤ length buffer
-  pub offsets : offset + length bytes < 2 ^ 64
+-- room for the text of n bytes that begin at an offset: a record has more bytes than a line, so a buffer of as many bytes and one line more
+-- has it; and no offset passes 64 bits
+pub record Room (offset n buffer : ℕ) : Type 0 where
+  pub lines : n + longest ≤ buffer
+  pub offsets : offset + n < 2 ^ 64
 
 -- the text of the bytes at the start of the buffer, how long it is, and whether the run stopped
 pub record Runs (offset : ℕ) (bytes before after : List ℕ) (r : Outcome) : Type 0 where
@@ -27,10 +29,13 @@ pub record Runs (offset : ℕ) (bytes before after : List ℕ) (r : Outcome) : T
 abbrev pub wholes : ℕ → ℕ
 wholes n = n - n % recordLength
 
--- one turn over the bytes that are held: the run over the whole records among them; and what is left of them stands in front
-pub record Turns (offset : ℕ) (bytes before after kept : List ℕ) (r : Outcome) : Type 0 where
-  pub ran : Runs offset (take (wholes (length bytes)) bytes) before after r
-  pub left : take (length bytes % recordLength) kept ≡ drop (wholes (length bytes)) bytes
+-- one turn over the bytes that are held: the run over the whole records among them; then what is left of them stands in front, from its own
+-- offset on
+pub record Turns (offset : ℕ) (bytes before after kept : List ℕ) (r : Turned) : Type 0 where
+  pub ran : Runs offset (take (wholes (length bytes)) bytes) before after (r .outcome)
+  pub count : r .left ≡ length bytes % recordLength
+  pub kept-left : take (r .left) kept ≡ drop (wholes (length bytes)) bytes
+  pub next : r .next ≡ offset + wholes (length bytes)
 
 -- the pieces in one
 abbrev pub joined : List (List ℕ) → List ℕ

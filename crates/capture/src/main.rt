@@ -1,4 +1,151 @@
+// Decodes a capture, from the file that the argument names or from standard input: the header, a line for each record, the line where it stopped.
+ghost use mathlib.Core.Path.{_≡_};
+ghost use Prim.Native.Nat.{_+_, _%_, _≤_};
+ghost use lib.ListN.{length};
+ghost use Rattle.records.specs.Records.{recordLength};
+ghost use Rattle.records.specs.Lines.{longest};
+ghost use Rattle.capture.specs.Runs.{Room, wholes};
+
 mod run;
 
+use libc::STDERR_FILENO;
+use libc::STDIN_FILENO;
+use libc::STDOUT_FILENO;
+use run::Turned;
+
+// No offset comes near the end of 64 bits; this says so to the proof.
+const FARTHEST: u64 = 0xFFFF_FFFF_FFFE_0000;
+
+const MEBIBYTE: u64 = 0x10_0000;
+
+// The first bytes of a buffer, to standard output.
+fn write_text(text: &[u8], put: usize) -> bool
+    requires { ⌜ put ≤ length (now text) ⌝ }
+{
+    let written = io::write_all(STDOUT_FILENO, &text[..put]);
+    if !written {
+        os::fail(b"standard output");
+    }
+    written
+}
+
+fn write_header() -> bool {
+    let mut line = [0u8; 16];
+    let n = records::lines::write_header(&mut line, 0);
+    write_text(&line, n)
+}
+
+// Where it would not run into the text: standard error is a terminal, and standard output is none.
+fn shows_progress() -> bool {
+    libc::isatty(STDERR_FILENO) == 1 && libc::isatty(STDOUT_FILENO) != 1
+}
+
+// How far the run has come, whenever it is a mebibyte farther.
+fn show_progress(shows: bool, before: u64, now: u64) {
+    if shows && before / MEBIBYTE < now / MEBIBYTE {
+        io::write_all(STDERR_FILENO, b"\r");
+        io::print_decimal(STDERR_FILENO, now / MEBIBYTE);
+        io::write_all(STDERR_FILENO, b" MiB decoded");
+    }
+}
+
+fn clear_progress(shows: bool) {
+    if shows {
+        io::write_all(STDERR_FILENO, b"\r\x1b[K");
+    }
+}
+
+// The text of what is left at the end of the input.
+fn write_last(held: &[u8], count: usize, offset: u64, text: &mut [u8])
+    requires { ⌜ count ≤ length (now held) ⌝ }
+    requires { ⌜ Room offset count (length (now text)) ⌝ }
+{
+    let outcome = run::run(&held[..count], offset, text);
+    let put = outcome.put;
+    write_text(text, put);
+}
+
+// A turn, and its text written; one whose text can't be written is the last, as one that stopped.
+fn write_turn(held: &mut [u8], count: usize, offset: u64, text: &mut [u8]) -> Turned
+    requires { ⌜ count ≤ length (now held) ⌝ }
+    requires { ⌜ Room offset count (length (now text)) ⌝ }
+    ensures { λ r. ⌜ (r .left ≡ count % recordLength) × (r .next ≡ offset + wholes count) ⌝ }
+{
+    let mut t = run::turn(held, count, offset, text);
+    let outcome = t.outcome;
+    let put = outcome.put;
+    if !write_text(text, put) {
+        t.outcome.stopped = true;
+    }
+    t
+}
+
+// Reads piece after piece, and writes the text of the whole records that are there: a capture of any length, also one that comes slowly.
+fn decode_pieces(fd: i32, name: &[u8], shows: bool, held: &mut [u8], text: &mut [u8])
+    requires { ⌜ length (now held) ≡ 65536 ⌝ }
+    requires { ⌜ length (now text) ≡ 65536 + longest ⌝ }
+{
+    let mut offset: u64 = 0;
+    let mut count: usize = 0;
+    while offset < FARTHEST {
+        let got = libc::read(fd, &mut held[count..]);
+        if got < 0 {
+            clear_progress(shows);
+            os::fail(name);
+            return;
+        }
+        let n = io::count(got, &held[count..]);
+        if n == 0 {
+            write_last(held, count, offset, text);
+            return;
+        }
+        let t = write_turn(held, count + n, offset, text);
+        let outcome = t.outcome;
+        if outcome.stopped {
+            return;
+        }
+        show_progress(shows, offset, t.next);
+        count = t.left;
+        offset = t.next;
+    }
+}
+
+// A read of no bytes fails where none can be read, as from a folder: then nothing is written, not even the header.
+fn decode(fd: i32, name: &[u8]) {
+    let mut none = [0u8; 1];
+    if libc::read(fd, &mut none[..0]) < 0 {
+        os::fail(name);
+        return;
+    }
+    if write_header() {
+        let shows = shows_progress();
+        let mut held = io::large_buffer();
+        let mut text = [0u8; 65572];
+        decode_pieces(fd, name, shows, &mut held, &mut text);
+        clear_progress(shows);
+    }
+}
+
+fn is_dash(path: &[u8]) -> bool {
+    path.len() == 1 && path[0] == b'-'
+}
+
 fn main() {
+    if os::arg_count() > 2 {
+        io::write_all(STDERR_FILENO, b"usage: capture [FILE]\n");
+        return;
+    }
+    let mut path = io::buffer();
+    let length = os::arg(1, &mut path);
+    if os::arg_count() < 2 || is_dash(&path[..length]) {
+        decode(STDIN_FILENO, b"standard input");
+        return;
+    }
+    let fd = os::open_read(&path[..length]);
+    if fd < 0 {
+        os::fail(&path[..length]);
+        return;
+    }
+    decode(fd, &path[..length]);
+    libc::close(fd);
 }

@@ -23,6 +23,13 @@ pub struct Outcome {
     pub stopped: bool,
 }
 
+// How many bytes are left after a turn, and the offset of the first of them.
+pub struct Turned {
+    pub outcome: Outcome,
+    pub left: usize,
+    pub next: u64,
+}
+
 // The line of a reading's answer, where there is room for any line.
 fn write_answer(reading: &[i32], out: &mut [u8], at: usize) -> usize
     requires { ⌜ at + longest ≤ length (now out) ⌝ }
@@ -42,7 +49,7 @@ fn write_answer(reading: &[i32], out: &mut [u8], at: usize) -> usize
 
 // The run over bytes that begin at an offset of the capture: the text of them all, at the start of the buffer.
 pub fn run(bytes: &[u8], offset: u64, out: &mut [u8]) -> Outcome
-    requires { ⌜ Room offset (now bytes) (now out) ⌝ }
+    requires { ⌜ Room offset (length (now bytes)) (length (now out)) ⌝ }
     ensures { λ r. ⌜ Runs offset (now (bytes .entry)) (now (out .entry)) (now (out .exit)) r ⌝ }
 {
     let mut at: usize = 0;
@@ -85,14 +92,21 @@ fn keep(held: &mut [u8], from: usize, end: usize)
     }
 }
 
-// The run over the whole records among the first bytes that are held; the rest of these bytes moves to the front.
-pub fn turn(held: &mut [u8], count: usize, offset: u64, out: &mut [u8]) -> Outcome
+// The run over the whole records among the first bytes that are held, which begin at an offset of the capture; the rest of these bytes moves to
+// the front.
+pub fn turn(held: &mut [u8], count: usize, offset: u64, out: &mut [u8]) -> Turned
     requires { ⌜ count ≤ length (now held) ⌝ }
-    requires { ⌜ Room offset (take count (now held)) (now out) ⌝ }
+    requires { ⌜ Room offset count (length (now out)) ⌝ }
     ensures { λ r. ⌜ Turns offset (take count (now (held .entry))) (now (out .entry)) (now (out .exit)) (now (held .exit)) r ⌝ }
 {
-    let whole = count - count % RECORD;
+    let left = count % RECORD;
+    let whole = count - left;
     let outcome = run(&held[..whole], offset, out);
     keep(held, whole, count);
-    outcome
+    let next = offset + whole as u64;
+    Turned {
+        outcome: outcome,
+        left: left,
+        next: next,
+    }
 }

@@ -1,11 +1,9 @@
 -- `capture::run::turn` meets its contract: the run is over the whole records in front, and what is kept is the rest.
 -- Assumes nothing.
 use mathlib.Core.Path.{sym}
-use Prim.Native.Nat.{_≤_}
 use native.Mathlib.Omega.{arith}
 use borrow.Author.Needs.{needs}
-use lib.ListN.{length}
-use Rattle.capture.proofs.Turns.{long, long-front, turn-done}
+use Rattle.capture.proofs.Turns.{long-front, turn-done}
 use Rattle.capture.proofs.run.turn.Statement.{statement}
 use Rattle.capture.proofs.run.turn.Tie as tie
 
@@ -23,15 +21,14 @@ run-requires c κs =
     let entered = c .before .before .before .before in
     let held = entered .args .held .now in
     let count = entered .args .count in
-    let h : count ≤ length held = search needs in
-    let room = entered .pre .1 in
-    record {
-      lines = omega (arith, room .lines, long held count h, long-front held count h);
-      offsets = omega (arith, room .offsets, long held count h, long-front held count h);
-    }
+    let e = long-front held count (search needs) in
+    record { lines = omega (arith, entered .pre .1 .lines, e); offsets = omega (arith, entered .pre .1 .offsets, e) }
 
 keep-requires : tie.Need-keep-requires
 keep-requires c κs = search needs
+
+add-next : tie.Need-add-next
+add-next c = omega (arith, c .before .before .before .before .before .before .before .before .before .before .before .pre .1 .offsets)
 
 same-length : tie.Need-same-length
 same-length c = search needs
@@ -54,6 +51,7 @@ turn-spec =
     slice-aggregate-run
     run-requires
     keep-requires
+    add-next
     same-length
     same-length-2
     returns)
