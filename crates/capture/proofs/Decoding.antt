@@ -10,9 +10,9 @@ use Rattle.golay.specs.Answers.{Answer}
 use Rattle.soft.specs.declared.kinds.Soft.{Soft}
 use Rattle.soft.specs.Calls.{SoftRule}
 use Rattle.soft.proofs.Decided.{soft-once, soft-exists}
-use Rattle.records.specs.Lines.{answerLine, longest}
-use Rattle.records.specs.Buffers.{Puts, Writes}
-use Rattle.records.proofs.Buffers.{puts-text, writes-puts}
+use Rattle.lines.specs.Lines.{answerLine, longest}
+use Rattle.lines.specs.Buffers.{Puts, Writes}
+use Rattle.lines.proofs.Buffers.{puts-text, writes-puts}
 use Rattle.capture.specs.declared.run.Outcome.{Outcome}
 use Rattle.capture.specs.Decoding.{messageAndReserve, Decoder}
 use Rattle.capture.specs.Runs.{Runs}

@@ -11,11 +11,11 @@ use lib.IntN.{ℤ}
 use lib.ListN.{length, drop}
 use Rattle.golay.specs.Answers.{Answer}
 use Rattle.records.specs.Records.{recordLength, Standing, ended, stopped, whole, standsAt, nextFrom, readingOf}
-use Rattle.records.specs.Lines.{answerLine, stoppedLine, longest}
-use Rattle.records.specs.Buffers.{put, Puts, Writes}
+use Rattle.lines.specs.Lines.{answerLine, stoppedLine, longest}
+use Rattle.lines.specs.Buffers.{put, Puts, Writes}
 use Rattle.records.specs.Capture.{stopping, stopsFrom, lines, linesFrom}
-use Rattle.records.proofs.Buffers.{puts-then, puts-text, writes-puts}
-use Rattle.records.proofs.Lengths.{stopped-short}
+use Rattle.lines.proofs.Buffers.{puts-then, puts-text, writes-puts}
+use Rattle.lines.proofs.Lengths.{stopped-short}
 use Rattle.records.proofs.Standing.{whole-room, next-whole}
 use Rattle.records.proofs.Texts.{step-ended, step-stopped, step-whole}
 use Rattle.capture.specs.Decoding.{Decoder}

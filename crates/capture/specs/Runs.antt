@@ -7,8 +7,8 @@ use lib.IntN.{ℤ}
 use lib.ListN.{length, take, drop}
 use Rattle.golay.specs.Answers.{Answer}
 use Rattle.records.specs.Records.{recordLength}
-use Rattle.records.specs.Lines.{longest}
-use Rattle.records.specs.Buffers.{Puts}
+use Rattle.lines.specs.Lines.{longest}
+use Rattle.lines.specs.Buffers.{Puts}
 use Rattle.records.specs.Capture.{stopsFrom, linesFrom}
 use Rattle.capture.specs.Decoding.{Decoder}
 use Rattle.capture.specs.declared.run.Outcome.{Outcome}

@@ -3,7 +3,7 @@ ghost use mathlib.Core.Path.{_≡_};
 ghost use Prim.Native.Nat.{_+_, _%_, _≤_};
 ghost use lib.ListN.{length};
 ghost use Rattle.records.specs.Records.{recordLength};
-ghost use Rattle.records.specs.Lines.{longest};
+ghost use Rattle.lines.specs.Lines.{longest};
 ghost use Rattle.capture.specs.Runs.{Room, wholes};
 
 mod run;
@@ -31,7 +31,7 @@ fn write_text(text: &[u8], put: usize) -> bool
 
 fn write_header() -> bool {
     let mut line = [0u8; 16];
-    let n = records::lines::write_header(&mut line, 0);
+    let n = lines::write_header(&mut line, 0);
     write_text(&line, n)
 }
 

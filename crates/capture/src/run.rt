@@ -7,12 +7,11 @@ ghost use lib.IntN.{ℤ};
 ghost use lib.ListN.{length, take, drop};
 ghost use lib.Seq.{paste};
 ghost use Rattle.golay.specs.Answers.{Answer};
-ghost use Rattle.records.specs.Lines.{answerLine, longest};
-ghost use Rattle.records.specs.Buffers.{Puts};
+ghost use Rattle.lines.specs.Lines.{answerLine, longest};
+ghost use Rattle.lines.specs.Buffers.{Puts};
 ghost use Rattle.capture.specs.Decoding.{Decoder};
 ghost use Rattle.capture.specs.Runs.{Room, Runs, Turns};
 use records::kinds::Step;
-use records::lines;
 use soft::kinds::SoftAnswer;
 
 const RECORD: usize = 98;

@@ -7,7 +7,7 @@ use lib.IntN.{ℤ, pos}
 use lib.ListN.{replicate}
 use Rattle.golay.specs.Answers.{Answer, accepted, refused}
 use Rattle.records.specs.Records.{readingLength, twosComplement, confidencesOf, standing}
-use Rattle.records.specs.Lines.{decimal}
+use Rattle.lines.specs.Lines.{decimal}
 use Rattle.records.specs.Capture.{runIn, output}
 use Rattle.records.specs.Cases.{capture, captureText}
 

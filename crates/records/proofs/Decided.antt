@@ -7,7 +7,6 @@ use Rattle.golay.proofs.Decided.{said-once, reason, reason-number}
 use Rattle.records.specs.declared.kinds.Step.{Step}
 use Rattle.records.specs.declared.kinds.Step.the-variants.{End, Record, Stopped}
 use Rattle.records.specs.Records.{Standing, ended, stopped, whole, standsAt, nextFrom, stepAnswer}
-use Rattle.records.specs.Buffers.{Writes}
 
 step-again : Standing ℕ → Step
 step-again ended = End
@@ -26,11 +25,3 @@ pub step-decided :
     → stepAnswer y ≡ nextFrom at (standsAt bytes at)
     → x ≡ y
 step-decided bytes at = said-once stepAnswer step-again step-back
-
--- of any line: what the buffer holds afterwards, and the place
-pub writes-decided :
-    {text before after later : List ℕ} {at next other : ℕ}
-    → Writes text before at after next
-    → Writes text before at later other
-    → (after ≡ later) × (next ≡ other)
-writes-decided p q = (p .buffer ∙ sym (q .buffer), p .place ∙ sym (q .place))

@@ -1,6 +1,3 @@
-pub mod Buffers
-pub mod Decimal
-pub mod Lengths
 pub mod Readings
 pub mod Standing
 pub mod Texts

@@ -12,7 +12,7 @@ use lib.ListN.{length, drop, length-drop}
 use lib.Seq.{drop-drop, drop-append-le}
 use Rattle.golay.specs.Answers.{Answer}
 use Rattle.records.specs.Records.{recordLength, Standing, ended, stopped, whole, standing, standsAt, nextFrom, readingOf}
-use Rattle.records.specs.Lines.{stoppedLine, answerLine}
+use Rattle.lines.specs.Lines.{stoppedLine, answerLine}
 use Rattle.records.specs.Capture.{Telling, runAt, runIn, runFrom, stopping, stopsFrom, lines, linesFrom}
 use Rattle.records.proofs.Standing.{ended-none, whole-known, standing-front, next-ended, next-stopped, next-whole}
 

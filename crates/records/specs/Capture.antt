@@ -6,7 +6,7 @@ use lib.IntN.{ℤ}
 use lib.ListN.{length, drop}
 use Rattle.golay.specs.Answers.{Answer}
 use Rattle.records.specs.Records.{Standing, ended, stopped, whole, standing, recordLength}
-use Rattle.records.specs.Lines.{header, stoppedLine, answerLine}
+use Rattle.lines.specs.Lines.{header, stoppedLine, answerLine}
 
 -- what is made of a run: at its end, at a stop with its number and offset, and of a record's reading and the rest of the run
 pub record Telling (A : Type 0) : Type 0 where

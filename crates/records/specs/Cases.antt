@@ -1,7 +1,7 @@
 -- Document 01, "Capture program": "a capture of a reading of 24 ones, a reading of 24 zeros and a single byte 49", and "the whole output".
 use mathlib.Core.List.{List, [], _∷_, _++_}
 use Prim.Native.Nat.{ℕ, zero, suc}
-use Rattle.records.specs.Ascii.{ascii}
+use Rattle.lines.specs.Ascii.{ascii}
 use Rattle.records.specs.Records.{readingLength}
 
 -- n confidences of one value, 0 to 255, as bytes

@@ -5,7 +5,6 @@ ghost use lib.ListN.{length, drop};
 ghost use Rattle.records.specs.Records.{twosComplement, confidenceOf, confidencesOf, readingLength, standsAt, nextFrom, readingOf, stepAnswer};
 
 pub mod kinds;
-pub mod lines;
 
 use golay::kinds::Refusal;
 use kinds::Step;

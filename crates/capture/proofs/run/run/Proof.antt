@@ -9,8 +9,8 @@ use borrow.Author.Needs.{needs}
 use lib.IntN.{ℤ}
 use lib.ListN.{length}
 use Rattle.records.specs.Records.{stopped, whole, nextFrom, standsAt, stepAnswer}
-use Rattle.records.specs.Lines.{answerLine}
-use Rattle.records.proofs.Buffers.{puts-text}
+use Rattle.lines.specs.Lines.{answerLine}
+use Rattle.lines.proofs.Buffers.{puts-text}
 use Rattle.records.proofs.Standing.{whole-room, next-whole}
 use Rattle.capture.proofs.Upto.{Upto, up-start, up-record, up-ended, up-stopped}
 use Rattle.capture.proofs.run.run.Statement.{statement}

@@ -9,8 +9,8 @@ use mir.Val.{SFits}
 use mir.Facts.{toZ-ofZ}
 use Rattle.soft.specs.declared.kinds.SoftAnswer.{SoftAnswer}
 use Rattle.soft.specs.Answers.{softAnswer}
-use Rattle.records.specs.Lines.{answerLine, acceptedLine, refusedLine}
-use Rattle.records.proofs.Lengths.{accepted-short, refused-short}
+use Rattle.lines.specs.Lines.{answerLine, acceptedLine, refusedLine}
+use Rattle.lines.proofs.Lengths.{accepted-short, refused-short}
 use Rattle.capture.specs.Decoding.{messageAndReserve}
 use Rattle.capture.proofs.Decoding.{answer-line}
 use Rattle.capture.proofs.run.write_answer.Statement.{statement}

@@ -4,8 +4,8 @@ ghost use mathlib.Core.Path.{_≡_};
 ghost use Prim.Native.Nat.{_+_, _-_, _≤_};
 ghost use lib.ListN.{length, take};
 ghost use Rattle.io.specs.Counts.{Counts};
-ghost use Rattle.records.specs.Lines.{decimal, header, lineOf, lineOfTwo, acceptedLine, refusedLine, stoppedLine};
-ghost use Rattle.records.specs.Buffers.{Puts, Writes};
+ghost use Rattle.lines.specs.Lines.{decimal, header, lineOf, lineOfTwo, acceptedLine, refusedLine, stoppedLine};
+ghost use Rattle.lines.specs.Buffers.{Puts, Writes};
 
 // How many bytes a buffer of a length has from a place on.
 fn room(length: usize, at: usize) -> usize

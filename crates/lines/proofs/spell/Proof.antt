@@ -1,4 +1,4 @@
--- `records::lines::spell` meets its contract, by that of the kit's `decimal`: its digits are the fewest that hold the number.
+-- `lines::spell` meets its contract, by that of the kit's `decimal`: its digits are the fewest that hold the number.
 -- Assumes nothing.
 use mathlib.Core.Path.{ap, _∙_}
 use Prim.Native.Nat.{_≤_}
@@ -7,10 +7,10 @@ use native.Mathlib.Omega.{arith}
 use borrow.Author.Needs.{needs}
 use lib.Dec.{lit≤}
 use lib.ListN.{length}
-use Rattle.records.specs.Lines.{decimal}
-use Rattle.records.proofs.Decimal.{digits-decimal, decimal-length}
-use Rattle.records.proofs.lines.spell.Statement.{statement}
-use Rattle.records.proofs.lines.spell.Tie as tie
+use Rattle.lines.specs.Lines.{decimal}
+use Rattle.lines.proofs.Decimal.{digits-decimal, decimal-length}
+use Rattle.lines.proofs.spell.Statement.{statement}
+use Rattle.lines.proofs.spell.Tie as tie
 
 decimal-requires : tie.Need-decimal-requires
 decimal-requires c κs = search needs

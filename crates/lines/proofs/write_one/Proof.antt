@@ -1,14 +1,14 @@
--- `records::lines::write_one` meets its contract: once the line has room, each of its three pieces is put after the last.
+-- `lines::write_one` meets its contract: once the line has room, each of its three pieces is put after the last.
 -- Assumes nothing.
 use mathlib.Core.Path.{ap}
 use native.Mathlib.Omega.{arith}
 use borrow.Author.Needs.{needs}
 use lib.ListN.{length}
-use Rattle.records.specs.Lines.{lineOf}
-use Rattle.records.proofs.Buffers.{puts-then, puts-text, puts-writes, no-room}
-use Rattle.records.proofs.Lengths.{length-one}
-use Rattle.records.proofs.lines.write_one.Statement.{statement}
-use Rattle.records.proofs.lines.write_one.Tie as tie
+use Rattle.lines.specs.Lines.{lineOf}
+use Rattle.lines.proofs.Buffers.{puts-then, puts-text, puts-writes, no-room}
+use Rattle.lines.proofs.Lengths.{length-one}
+use Rattle.lines.proofs.write_one.Statement.{statement}
+use Rattle.lines.proofs.write_one.Tie as tie
 
 spell-requires : tie.Need-spell-requires
 spell-requires c κs = search needs

@@ -7,8 +7,8 @@ use native.Mathlib.Nat.{lt-of-lt-of-le}
 use native.Mathlib.Omega.{arith}
 use lib.Dec.{lit≤}
 use lib.ListN.{length, length-append}
-use Rattle.records.specs.Lines.{decimal, header, lineOf, lineOfTwo, acceptedLine, refusedLine, stoppedLine, longest}
-use Rattle.records.proofs.Decimal.{decimal-length}
+use Rattle.lines.specs.Lines.{decimal, header, lineOf, lineOfTwo, acceptedLine, refusedLine, stoppedLine, longest}
+use Rattle.lines.proofs.Decimal.{decimal-length}
 
 pub length-one : (word : List ℕ) (n : ℕ) → length (lineOf word n) ≡ length word + length (decimal n) + 1
 length-one word n = simp length-append

@@ -1,11 +1,11 @@
--- `records::lines::write_header` meets its contract: the text is copied where it has room.
+-- `lines::write_header` meets its contract: the text is copied where it has room.
 -- Assumes nothing.
 use native.Mathlib.Omega.{arith}
 use borrow.Author.Needs.{needs}
-use Rattle.records.specs.Lines.{header}
-use Rattle.records.proofs.Buffers.{puts-writes, no-room}
-use Rattle.records.proofs.lines.write_header.Statement.{statement}
-use Rattle.records.proofs.lines.write_header.Tie as tie
+use Rattle.lines.specs.Lines.{header}
+use Rattle.lines.proofs.Buffers.{puts-writes, no-room}
+use Rattle.lines.proofs.write_header.Statement.{statement}
+use Rattle.lines.proofs.write_header.Tie as tie
 
 room-requires : tie.Need-room-requires
 room-requires c κs = search needs

@@ -5,7 +5,7 @@ use Prim.Native.Nat.{ℕ, zero, suc, _/_}
 use lib.Dec.{ltb}
 use Rattle.io.specs.Digits.{digits}
 use Rattle.golay.specs.Answers.{Answer, accepted, refused}
-use Rattle.records.specs.Ascii.{ascii}
+use Rattle.lines.specs.Ascii.{ascii}
 
 -- how many digits n has, where fuel is no less than n
 abbrev pub placesIn : ℕ → ℕ → ℕ
