@@ -8,6 +8,7 @@ mod soft;
 
 use crate::chance::Chance;
 use crate::code::{Code, POSITIONS, WORDS};
+use crate::decoders::FORBIDDEN;
 use crate::line::Case;
 
 #[cfg(test)]
@@ -79,6 +80,26 @@ fn ones() -> Vec<i32> {
 
 fn zeros() -> Vec<i32> {
     vec![0; POSITIONS]
+}
+
+/// Wrong lengths, the forbidden confidence and its neighbour at each place, and both at once. Most
+/// stand in readings that are made for the purpose; zeros and the tied reading would be refused
+/// with 6 but for the earlier refusal.
+fn refused_readings(mut reading: impl FnMut(usize) -> Vec<i32>, tied: &[i32]) -> Vec<Vec<i32>> {
+    let mut readings = Vec::new();
+    for place in 0..POSITIONS {
+        let reading = reading(place);
+        readings.push(with_confidence(&reading, place, FORBIDDEN));
+        readings.push(with_confidence(&reading, place, FORBIDDEN + 1));
+        readings.push(with_confidence(&zeros(), place, FORBIDDEN));
+    }
+    for &length in &WRONG_LENGTHS {
+        readings.push(of_length(&ones(), length));
+        readings.push(of_length(tied, length));
+        readings.push(of_length(&reading(length), length));
+        readings.push(vec![FORBIDDEN; length]);
+    }
+    readings
 }
 
 /// Document 01's readings, the soft and the quick ones together.

@@ -19,7 +19,7 @@ pub fn damaged(chance: &mut Chance, word: u32, errors: usize) -> u32 {
 }
 
 /// A random codeword with each number of errors from none to four.
-pub fn at_each_distance(chance: &mut Chance, code: &Code) -> Vec<u32> {
+fn at_each_distance(chance: &mut Chance, code: &Code) -> Vec<u32> {
     let word = |errors| {
         let codeword = any_codeword(chance, code);
         damaged(chance, codeword, errors)
@@ -35,4 +35,12 @@ pub fn word_above(chance: &mut Chance, code: &Code) -> u32 {
         any_word(chance)
     };
     chance.between(1, 255) as u32 * WORDS | lower
+}
+
+/// A word at each distance from the code, any word, and a word above the range.
+pub fn of_every_sort(chance: &mut Chance, code: &Code) -> Vec<u32> {
+    let mut words = at_each_distance(chance, code);
+    words.push(any_word(chance));
+    words.push(word_above(chance, code));
+    words
 }

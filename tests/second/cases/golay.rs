@@ -4,7 +4,7 @@ use super::WORD_BOUNDS;
 use crate::chance::Chance;
 use crate::code::{Code, MESSAGES, POSITIONS, WORDS};
 use crate::line::Case;
-use crate::words::{any_codeword, any_word, at_each_distance, damaged, word_above};
+use crate::words::{any_codeword, any_word, damaged, of_every_sort, word_above};
 
 const EXAMPLE_MESSAGES: [u32; 7] = [0x000, 0x800, 0x400, 0x200, 0x080, 0x020, 0x01F];
 const EXAMPLE_WORDS: [u32; 4] = [0x800000, 0x400000, 0x000008, 0x000001];
@@ -29,9 +29,7 @@ pub fn seeded(code: &Code, chance: &mut Chance) -> Vec<Case> {
     cases.extend(code.codewords.iter().map(|&codeword| Case::Read(codeword)));
     cases.extend(words_of_at_most_two_ones().into_iter().map(Case::Syndrome));
     cases.extend((0..SEEDED_SYNDROMES).map(|_| Case::Syndrome(any_word(chance))));
-    for _ in 0..SEEDED_ROUNDS {
-        cases.extend(round(code, chance));
-    }
+    cases.extend((0..SEEDED_ROUNDS).flat_map(|_| round(code, chance)));
     cases
 }
 
@@ -41,9 +39,7 @@ pub fn fixed(code: &Code, chance: &mut Chance) -> Vec<Case> {
     cases.extend((0..12).map(|i| Case::Encode(1 << i)));
     cases.extend((0..100).map(|_| Case::Encode(chance.below(u64::from(MESSAGES)) as u32)));
     cases.extend(words_of_at_most_two_ones().into_iter().map(Case::Syndrome));
-    for _ in 0..FIXED_ROUNDS {
-        cases.extend(round(code, chance));
-    }
+    cases.extend((0..FIXED_ROUNDS).flat_map(|_| round(code, chance)));
     cases
 }
 
@@ -96,24 +92,16 @@ fn round(code: &Code, chance: &mut Chance) -> Vec<Case> {
         Case::Syndrome(word_above(chance, code)),
         Case::Syndrome(any_word(chance)),
     ];
-    for word in words_of_a_round(code, chance) {
+    for word in of_every_sort(chance, code) {
         cases.push(Case::Read(word));
     }
     for &length in &BUFFER_LENGTHS {
-        for word in words_of_a_round(code, chance) {
+        for word in of_every_sort(chance, code) {
             cases.push(Case::WriteBytes(word, chance.bytes(length)));
         }
         cases.extend(byte_readings(code, chance, length));
     }
     cases
-}
-
-/// A codeword, a codeword with 1, 2, 3 and 4 errors, any word, and a word above the range.
-fn words_of_a_round(code: &Code, chance: &mut Chance) -> Vec<u32> {
-    let mut words = at_each_distance(chance, code);
-    words.push(any_word(chance));
-    words.push(word_above(chance, code));
-    words
 }
 
 /// Bytes of a codeword, of a damaged one and of any word, cut or continued to the length.

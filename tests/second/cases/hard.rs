@@ -4,7 +4,7 @@ use super::WORD_BOUNDS;
 use crate::chance::Chance;
 use crate::code::{Code, POSITIONS, WORDS};
 use crate::line::Case;
-use crate::words::{any_codeword, any_word, at_each_distance, word_above};
+use crate::words::{any_codeword, any_word, of_every_sort};
 
 const EXAMPLE_WORDS: [u32; 2] = [0x777770, 0xF00000];
 const SLOT_COUNTS: [usize; 4] = [0, 5, 6, 7];
@@ -28,9 +28,7 @@ pub fn seeded(code: &Code, chance: &mut Chance) -> Vec<Case> {
         ));
     }
     cases.extend((0..SEEDED_WORDS).map(|_| Case::Correct(any_word(chance))));
-    for _ in 0..SEEDED_ROUNDS {
-        cases.extend(round(code, chance));
-    }
+    cases.extend((0..SEEDED_ROUNDS).flat_map(|_| round(code, chance)));
     cases
 }
 
@@ -41,9 +39,7 @@ pub fn fixed(code: &Code, chance: &mut Chance) -> Vec<Case> {
     for pattern in patterns().into_iter().step_by(FIXED_PATTERNS_EACH) {
         cases.push(Case::Correct(pattern ^ any_codeword(chance, code)));
     }
-    for _ in 0..FIXED_ROUNDS {
-        cases.extend(round(code, chance));
-    }
+    cases.extend((0..FIXED_ROUNDS).flat_map(|_| round(code, chance)));
     cases
 }
 
@@ -97,13 +93,10 @@ fn slots(chance: &mut Chance, count: usize) -> Vec<u32> {
     (0..count).map(|_| chance.next() as u32).collect()
 }
 
-/// Words at each distance, any word and a word above; each corrected and asked for candidates.
+/// Words of every sort, each corrected and asked for candidates.
 fn round(code: &Code, chance: &mut Chance) -> Vec<Case> {
-    let mut words = at_each_distance(chance, code);
-    words.push(any_word(chance));
-    words.push(word_above(chance, code));
     let mut cases = Vec::new();
-    for word in words {
+    for word in of_every_sort(chance, code) {
         cases.push(Case::Correct(word));
         cases.extend(
             SLOT_COUNTS

@@ -1,9 +1,8 @@
 //! The cases of the quick decoder.
 
-use super::{of_length, ones, readings_of_the_document, with_confidence, zeros, WRONG_LENGTHS};
+use super::{readings_of_the_document, refused_readings};
 use crate::chance::Chance;
 use crate::code::{Code, COLUMNS, POSITIONS};
-use crate::decoders::FORBIDDEN;
 use crate::line::Case;
 use crate::readings::{KINDS, QUICK_KINDS};
 
@@ -19,13 +18,11 @@ pub fn fixed(code: &Code, chance: &mut Chance) -> Vec<Case> {
 }
 
 fn gathered(code: &Code, chance: &mut Chance, many: usize) -> Vec<Case> {
-    let mut cases: Vec<Case> = readings_of_the_document()
-        .into_iter()
-        .map(Case::Quick)
-        .collect();
-    cases.extend(refused(code, chance));
-    cases.extend((0..many).map(|i| Case::Quick(reading(code, chance, i))));
-    cases
+    let mut readings = readings_of_the_document();
+    readings.extend(ties());
+    readings.extend(refused_readings(|i| reading(code, chance, i), &tied()));
+    readings.extend((0..many).map(|i| reading(code, chance, i)));
+    readings.into_iter().map(Case::Quick).collect()
 }
 
 /// The kinds of readings in turn, every second one of the quick decoder's own.
@@ -58,7 +55,7 @@ fn tied() -> Vec<i32> {
 }
 
 /// Six, two or no candidates tied for the smallest sum, and two tied for a sum above the smallest.
-fn ties() -> Vec<Case> {
+fn ties() -> Vec<Vec<i32>> {
     let sizes = [
         [1; 6],
         [1, 1, 2, 2, 2, 2],
@@ -67,29 +64,5 @@ fn ties() -> Vec<Case> {
         [3, 2, 2, 3, 1, 3],
         [2, 1, 3, 4, 5, 6],
     ];
-    sizes
-        .into_iter()
-        .map(|sizes| Case::Quick(of_column_sizes(sizes)))
-        .collect()
-}
-
-/// Refusals 6, 2 and 1 at their boundaries, and the earlier one where two apply.
-fn refused(code: &Code, chance: &mut Chance) -> Vec<Case> {
-    let mut cases = ties();
-    for place in 0..POSITIONS {
-        let reading = reading(code, chance, place);
-        cases.push(Case::Quick(with_confidence(&reading, place, FORBIDDEN)));
-        cases.push(Case::Quick(with_confidence(&reading, place, FORBIDDEN + 1)));
-        cases.push(Case::Quick(with_confidence(&zeros(), place, FORBIDDEN)));
-    }
-    for &length in &WRONG_LENGTHS {
-        cases.push(Case::Quick(of_length(&ones(), length)));
-        cases.push(Case::Quick(of_length(&tied(), length)));
-        cases.push(Case::Quick(of_length(
-            &reading(code, chance, length),
-            length,
-        )));
-        cases.push(Case::Quick(vec![FORBIDDEN; length]));
-    }
-    cases
+    sizes.into_iter().map(of_column_sizes).collect()
 }

@@ -1,7 +1,8 @@
 //! The cases of the soft decoder and of the class figures.
 
 use super::{
-    of_length, ones, readings_of_the_document, sharp, with_confidence, zeros, WRONG_LENGTHS,
+    of_length, readings_of_the_document, refused_readings, sharp, with_confidence, zeros,
+    WRONG_LENGTHS,
 };
 use crate::chance::Chance;
 use crate::code::{Code, POSITIONS};
@@ -40,7 +41,8 @@ pub fn fixed(code: &Code, chance: &mut Chance) -> Result<Vec<Case>, String> {
 
 fn gathered(code: &Code, chance: &mut Chance, many: Amounts) -> Result<Vec<Case>, String> {
     let mut cases = examples();
-    cases.extend(refused_readings(code, chance));
+    let refused = refused_readings(|i| reading(code, chance, i), &zeros());
+    cases.extend(refused.into_iter().map(Case::Soft));
     cases.extend(refused_classes(code, chance));
     cases.extend((0..many.decoded).map(|i| Case::Soft(reading(code, chance, i))));
     for i in 0..many.classed {
@@ -67,28 +69,6 @@ fn examples() -> Vec<Case> {
     for reading in readings_of_the_document() {
         cases.push(Case::ClassFigure(0, reading.clone()));
         cases.push(Case::ClassFigure(CLASSES - 1, reading));
-    }
-    cases
-}
-
-/// Wrong lengths, the forbidden confidence and its neighbour at each place, and both at once.
-fn refused_readings(code: &Code, chance: &mut Chance) -> Vec<Case> {
-    let mut cases = Vec::new();
-    for place in 0..POSITIONS {
-        let reading = reading(code, chance, place);
-        cases.push(Case::Soft(with_confidence(&reading, place, FORBIDDEN)));
-        cases.push(Case::Soft(with_confidence(&reading, place, FORBIDDEN + 1)));
-        // Refusal 2 comes before the tie that the zeros would give.
-        cases.push(Case::Soft(with_confidence(&zeros(), place, FORBIDDEN)));
-    }
-    for &length in &WRONG_LENGTHS {
-        cases.push(Case::Soft(of_length(&ones(), length)));
-        cases.push(Case::Soft(of_length(&zeros(), length)));
-        cases.push(Case::Soft(of_length(
-            &reading(code, chance, length),
-            length,
-        )));
-        cases.push(Case::Soft(vec![FORBIDDEN; length]));
     }
     cases
 }
