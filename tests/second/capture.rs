@@ -1,11 +1,20 @@
-//! What the capture program must print: records by document 01's mark, each with its soft answer.
+//! What a capture is and what the capture program must print: records by document 01's mark, each
+//! with its soft answer.
 
 use crate::code::{Code, POSITIONS};
 use crate::decoders::Refusal;
 
-const MARK: [u8; 2] = [0x49, 0x43];
+pub const MARK: [u8; 2] = [0x49, 0x43];
 const CONFIDENCE_BYTES: usize = 4;
-const RECORD: usize = MARK.len() + CONFIDENCE_BYTES * POSITIONS;
+/// The bytes of a record.
+pub const RECORD: usize = MARK.len() + CONFIDENCE_BYTES * POSITIONS;
+
+pub fn record(reading: &[i32]) -> Vec<u8> {
+    let confidences = reading
+        .iter()
+        .flat_map(|confidence| confidence.to_be_bytes());
+    MARK.into_iter().chain(confidences).collect()
+}
 
 /// The whole output, each line ended by a line feed.
 pub fn output(code: &Code, capture: &[u8]) -> String {

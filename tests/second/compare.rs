@@ -5,7 +5,7 @@ use crate::line::{cases_of, lines_of, Case};
 use std::fs;
 
 /// More disagreements than these are only counted.
-const SHOWN: usize = 10;
+pub const SHOWN: usize = 10;
 
 pub struct Report {
     pub text: String,

@@ -4,6 +4,7 @@
 //! that a slip of the one can't be a slip of the other.
 
 mod capture;
+mod captures;
 mod cases;
 mod chance;
 mod code;
@@ -11,13 +12,16 @@ mod compare;
 mod decoders;
 mod line;
 mod readings;
+mod samples;
 #[cfg(test)]
 mod tests;
 mod words;
 
 use cases::Kind;
 use code::Code;
+use compare::Report;
 use line::Case;
+use samples::Sample;
 use std::fs;
 use std::io::{self, BufWriter, Read, Write};
 use std::process::exit;
@@ -29,8 +33,13 @@ const USAGE: &str =
        second answers                reads cases, prints an answer line each
        second compare CASES ANSWERS  compares a file of answers with its own
        second capture FILE           prints what the capture program must print for a file
+       second sample SAMPLE SEED     prints the capture that a seed gives
+       second captures SEED PROGRAM [WORD..]
+                                     runs a capture program on captures that a seed gives, and
+                                     compares what it writes with its own
        second seed                   prints a fresh seed
-KIND is golay, hard, soft or quick; SEED is a decimal number below 2^64";
+KIND is golay, hard, soft or quick; SAMPLE is decent, weak or damaged;
+SEED is a decimal number below 2^64";
 
 enum Failure {
     Usage,
@@ -71,30 +80,26 @@ fn fail(message: &str, status: i32) {
 fn run(words: &[&str], out: &mut dyn Write) -> Result<(), Failure> {
     let code = Code::by_the_column_rule();
     match words {
-        ["cases", kind, seed] => {
-            let seed: u64 = seed.parse().map_err(|_| Failure::Usage)?;
-            print_all(
-                &kind_named(kind)?.seeded(&code, seed)?,
-                out,
-                Case::to_string,
-            )
-        }
+        ["cases", kind, seed] => print_all(
+            &kind_named(kind)?.seeded(&code, seed_of(seed)?)?,
+            out,
+            Case::to_string,
+        ),
         ["fixed", kind] => print_all(&kind_named(kind)?.fixed(&code)?, out, Case::to_string),
         ["answers"] => print_all(&cases_of_standard_input()?, out, |case| {
             case.answer_line(&code)
         }),
-        ["compare", cases, answers] => {
-            let report = compare::compare(&code, cases, answers)?;
-            print_text(&report.text, out)?;
-            if report.passed {
-                Ok(())
-            } else {
-                Err(Failure::Disagreement)
-            }
+        ["compare", cases, answers] => print_report(&compare::compare(&code, cases, answers)?, out),
+        ["captures", seed, program @ ..] if !program.is_empty() => {
+            print_report(&captures::compare(&code, seed_of(seed)?, program)?, out)
         }
         ["capture", file] => {
             let bytes = fs::read(file).map_err(|reason| format!("{file}: {reason}"))?;
             print_text(&capture::output(&code, &bytes), out)
+        }
+        ["sample", name, seed] => {
+            let sample = Sample::named(name).ok_or(Failure::Usage)?;
+            print_bytes(&sample.capture(&code, seed_of(seed)?), out)
         }
         ["seed"] => print_text(&format!("{}\n", fresh_seed()?), out),
         _ => Err(Failure::Usage),
@@ -103,6 +108,10 @@ fn run(words: &[&str], out: &mut dyn Write) -> Result<(), Failure> {
 
 fn kind_named(name: &str) -> Result<Kind, Failure> {
     Kind::named(name).ok_or(Failure::Usage)
+}
+
+fn seed_of(text: &str) -> Result<u64, Failure> {
+    text.parse().map_err(|_| Failure::Usage)
 }
 
 fn cases_of_standard_input() -> Result<Vec<Case>, String> {
@@ -114,8 +123,21 @@ fn cases_of_standard_input() -> Result<Vec<Case>, String> {
 }
 
 fn print_text(text: &str, out: &mut dyn Write) -> Result<(), Failure> {
-    out.write_all(text.as_bytes())
+    print_bytes(text.as_bytes(), out)
+}
+
+fn print_bytes(bytes: &[u8], out: &mut dyn Write) -> Result<(), Failure> {
+    out.write_all(bytes)
         .map_err(|reason| Failure::Reason(format!("standard output: {reason}")))
+}
+
+fn print_report(report: &Report, out: &mut dyn Write) -> Result<(), Failure> {
+    print_text(&report.text, out)?;
+    if report.passed {
+        Ok(())
+    } else {
+        Err(Failure::Disagreement)
+    }
 }
 
 fn print_all(

@@ -25,13 +25,13 @@ pub const KINDS: [Kind; 9] = [
 pub const QUICK_KINDS: [Kind; 3] = [four_wrong, four_wrong_of_one_size, four_wrong_full_range];
 
 /// The reading that speaks for a word with the given sizes; a size below zero speaks against it.
-fn speaking_for(word: u32, sizes: &[i64]) -> Vec<i32> {
+pub fn speaking_for(word: u32, sizes: &[i64]) -> Vec<i32> {
     let signed =
         |(place, &size): (usize, &i64)| (if bit_at(word, place) { -size } else { size }) as i32;
     sizes.iter().enumerate().map(signed).collect()
 }
 
-fn sizes(chance: &mut Chance, least: i64, most: i64) -> Vec<i64> {
+pub fn sizes(chance: &mut Chance, least: i64, most: i64) -> Vec<i64> {
     (0..POSITIONS)
         .map(|_| chance.between(least, most))
         .collect()

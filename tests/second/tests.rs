@@ -3,6 +3,7 @@
 //! Built by `rustc -O --test --edition 2021 -o target/second-tests tests/second/main.rs`.
 
 use crate::capture;
+use crate::captures::trials;
 use crate::cases::{patterns, Kind};
 use crate::chance::Chance;
 use crate::code::{
@@ -12,6 +13,8 @@ use crate::code::{
 use crate::compare::compare;
 use crate::line::{cases_of, Case};
 use crate::readings::KINDS;
+use crate::samples::Sample;
+use std::collections::HashSet;
 use std::fs;
 
 fn code() -> Code {
@@ -410,6 +413,43 @@ fn record(confidence: i32) -> Vec<u8> {
     let mut record = vec![0x49, 0x43];
     (0..24).for_each(|_| record.extend(confidence.to_be_bytes()));
     record
+}
+
+#[test]
+fn records_have_the_mark_and_the_most_significant_byte_first() {
+    for confidence in [0, 1, -2, 0x0102_0304, i32::MAX, i32::MIN] {
+        assert_eq!(capture::record(&[confidence; 24]), record(confidence));
+    }
+    let mut reading = vec![0; 24];
+    reading[0] = 0x0102_0304;
+    reading[23] = -2;
+    let bytes = capture::record(&reading);
+    assert_eq!(bytes[..6], [0x49, 0x43, 1, 2, 3, 4]);
+    assert_eq!(bytes[94..], [0xFF, 0xFF, 0xFF, 0xFE]);
+}
+
+/// Two trials at once must not write and remove one file.
+#[test]
+fn captures_tried_have_names_of_their_own() {
+    let trials = trials(&code(), &mut Chance::from_seed(5));
+    let names: HashSet<&str> = trials.iter().map(|trial| trial.name.as_str()).collect();
+    assert_eq!(names.len(), trials.len());
+}
+
+#[test]
+fn samples_show_what_they_are_named_for() {
+    let code = code();
+    let lines = |sample: Sample| capture::output(&code, &sample.capture(&code, 6));
+    let decent = lines(Sample::Decent);
+    assert!(!decent.contains("refused") && !decent.contains("stopped"));
+    let weak = lines(Sample::Weak);
+    assert!(weak.contains("refused 6") && weak.contains("refused 2") && !weak.contains("stopped"));
+    let damaged = lines(Sample::Damaged);
+    assert!(damaged
+        .lines()
+        .last()
+        .expect("a line")
+        .starts_with("stopped 9 at "));
 }
 
 #[test]
