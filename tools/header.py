@@ -1,0 +1,112 @@
+#!/usr/bin/env python3
+"""Compares include/garthumor.h with the entry points of crates/drive/src/lib.rt: each is declared and each declaration is defined, with the
+same parameters in the same order under the same names, and the types that C has for the source's. Prints what differs; exit 1 where
+something does.
+
+A slice is a pointer and a length in C; the length has no name in the source, so the header chooses it.
+"""
+
+import pathlib
+import re
+import sys
+
+ROOT = pathlib.Path(__file__).resolve().parent.parent
+SOURCE = ROOT / "crates/drive/src/lib.rt"
+HEADER = ROOT / "include/garthumor.h"
+
+NUMBERS = {"u8": "uint8_t", "u16": "uint16_t", "u32": "uint32_t", "i32": "int32_t", "i64": "int64_t", "usize": "size_t"}
+LENGTH = "(length)"
+
+ENTRY_POINT = re.compile(r'#\[no_mangle\]\s+pub extern "C" fn (\w+)\(([^)]*)\)\s*->\s*(\w+)')
+RATTLE_TYPE = re.compile(r"(&mut |&|)(\[?)(\w+)(\]?)")
+DECLARATION = re.compile(r"(\w+)\s+(\w+)\s*\(([^)]*)\)")
+C_PARAMETER = re.compile(r"(.*?)(\w+)", re.DOTALL)
+
+
+class Unreadable(Exception):
+    """A text that this script does not understand; it must not pass for one that agrees."""
+
+
+def in_c(name, rattle):
+    """The parameters that C has for one of the source's: pairs of a type and a name."""
+    match = RATTLE_TYPE.fullmatch(rattle)
+    if not match or match[3] not in NUMBERS or (match[2] == "[") != (match[4] == "]") or (match[2] and not match[1]):
+        raise Unreadable(f"{SOURCE.name}: {name}: {rattle} is no type of a parameter for C")
+    lent, bracket, number, _ = match.groups()
+    pointer = {"": "", "&": " *", "&mut ": " *"}[lent]
+    constant = "const " if lent == "&" else ""
+    return [(constant + NUMBERS[number] + pointer, name)] + ([("size_t", LENGTH)] if bracket else [])
+
+
+def defined(text):
+    """Each entry point of the source as C sees it: its return type and its parameters."""
+    text = re.sub(r"//[^\n]*", "", text)
+    calls = {}
+    for name, parameters, answer in ENTRY_POINT.findall(text):
+        pairs = [parameter.split(":") for parameter in parameters.split(",") if parameter.strip()]
+        calls[name] = (NUMBERS.get(answer, answer), [c for left, right in pairs for c in in_c(left.strip(), right.strip())])
+    if len(calls) != text.count('extern "C"'):
+        raise Unreadable(f'{SOURCE.name}: not every extern "C" is that of an entry point')
+    return calls
+
+
+def declared_parameter(text):
+    match = C_PARAMETER.fullmatch(text.strip())
+    if not match:
+        raise Unreadable(f"{HEADER.name}: {text.strip()} is no parameter with a name")
+    return " ".join(match[1].replace("*", " * ").split()), match[2]
+
+
+def declared(text):
+    """Each declaration of the header: its return type and its parameters."""
+    text = re.sub(r"/\*.*?\*/", "", text, flags=re.DOTALL)
+    text = re.sub(r"^#.*$", "", text, flags=re.MULTILINE)
+    text = text.replace('extern "C" {', "").replace("}", "")
+    calls = {}
+    for declaration in filter(None, map(str.strip, text.split(";"))):
+        match = DECLARATION.fullmatch(declaration)
+        if not match or match[2] in calls:
+            raise Unreadable(f"{HEADER.name}: {declaration} is no declaration, or a second one")
+        calls[match[2]] = (match[1], [declared_parameter(parameter) for parameter in match[3].split(",")])
+    return calls
+
+
+def differs(wanted, found):
+    """Whether a declaration is not the one that the source asks for; a length has any name."""
+    if wanted[0] != found[0] or len(wanted[1]) != len(found[1]):
+        return True
+    pairs = zip(wanted[1], found[1])
+    return any(w != f and w != (f[0], LENGTH) for w, f in pairs)
+
+
+def shown(name, call):
+    return f"{call[0]} {name}({', '.join(f'{kind} {word}' for kind, word in call[1])})".replace("* ", "*")
+
+
+def differences(source, header):
+    for name in sorted(source.keys() | header.keys()):
+        if name not in header:
+            yield f"defined, but not declared: {shown(name, source[name])}"
+        elif name not in source:
+            yield f"declared, but not defined: {shown(name, header[name])}"
+        elif differs(source[name], header[name]):
+            yield f"defined:  {shown(name, source[name])}\ndeclared: {shown(name, header[name])}"
+
+
+def main():
+    try:
+        source = defined(SOURCE.read_text(encoding="utf-8"))
+        header = declared(HEADER.read_text(encoding="utf-8"))
+    except Unreadable as reason:
+        print(reason, file=sys.stderr)
+        return 1
+    found = list(differences(source, header))
+    for difference in found:
+        print(difference, file=sys.stderr)
+    if not source:
+        print(f"{SOURCE.name}: no entry point", file=sys.stderr)
+    return 1 if found or not source else 0
+
+
+if __name__ == "__main__":
+    sys.exit(main())
