@@ -3,6 +3,7 @@
 mod golay;
 mod hard;
 mod quick;
+pub mod refusals;
 mod sharp;
 mod soft;
 

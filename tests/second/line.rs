@@ -21,7 +21,7 @@ pub enum Case {
     Quick(Vec<i32>),
 }
 
-fn spaced<T: Display>(numbers: &[T]) -> String {
+pub fn spaced<T: Display>(numbers: &[T]) -> String {
     numbers.iter().map(|number| format!(" {number}")).collect()
 }
 

@@ -4,14 +4,14 @@
 
 use crate::capture;
 use crate::captures::trials;
-use crate::cases::{patterns, Kind};
+use crate::cases::{patterns, refusals, Kind};
 use crate::chance::Chance;
 use crate::code::{
     columns, distance, hexacodeword, parity, projection, syndrome_of, top, top_row_parity, Code,
     WORDS,
 };
 use crate::compare::compare;
-use crate::line::{cases_of, Case};
+use crate::line::{cases_of, spaced, Case};
 use crate::readings::KINDS;
 use crate::samples::Sample;
 use std::collections::HashSet;
@@ -149,46 +149,32 @@ fn words_tied_in_the_document() {
     );
 }
 
+/// A refusal's number alone; what it leaves in lent memory is what was there.
+fn refused_line(number: u8, case: &Case) -> String {
+    match case {
+        Case::WriteBytes(_, lent) => format!("refused {number} |{}", spaced(lent)),
+        Case::Candidates(_, lent) => format!("refused {number} |{}", spaced(lent)),
+        _ => format!("refused {number}"),
+    }
+}
+
 #[test]
 fn earlier_refusals_come_first() {
-    let lowest = -2_147_483_648;
-    let (short, lawful, forbidden) = (
-        runs(&[(23, lowest)]),
-        runs(&[(24, 0)]),
-        runs(&[(23, 0), (1, lowest)]),
-    );
-    let cases = [
-        (format!("write_bytes {} 7 7", WORDS), "refused 1 | 7 7"),
-        (format!("write_bytes {} 7 7 7", WORDS), "refused 4 | 7 7 7"),
-        ("write_bytes 1 7 7 7".to_string(), "refused 5 | 7 7 7"),
-        ("write_bytes 1".to_string(), "refused 1 |"),
-        (
-            format!("write_bytes {} 7 7 7", 0x777778),
-            "answered | 119 119 120",
-        ),
-        ("read_bytes 0 0".to_string(), "refused 1"),
-        ("read_bytes 0 0 1".to_string(), "refused 5"),
-        (format!("candidates {} 7", WORDS), "refused 1 | 7"),
-        (
-            format!("candidates {} 1 2 3 4 5 6", WORDS),
-            "refused 4 | 1 2 3 4 5 6",
-        ),
-        (
-            "candidates 1 1 2 3 4 5 6".to_string(),
-            "refused 8 | 1 2 3 4 5 6",
-        ),
-        (format!("class_figure 128{short}"), "refused 1"),
-        (format!("class_figure 128{forbidden}"), "refused 2"),
-        (format!("class_figure 128{lawful}"), "refused 11"),
-        (format!("class_figure 127{lawful}"), "answered 0"),
-        (format!("soft{short}"), "refused 1"),
-        (format!("soft{forbidden}"), "refused 2"),
-        (format!("quick{short}"), "refused 1"),
-        (format!("quick{forbidden}"), "refused 2"),
-        ("soft".to_string(), "refused 1"),
-    ];
-    for (line, expected) in cases {
-        assert_eq!(answer(&line), expected, "{line}");
+    let code = code();
+    for rows in [
+        refusals::golay,
+        refusals::hard,
+        refusals::soft,
+        refusals::quick,
+    ] {
+        for (number, case) in rows() {
+            let line = case.answer_line(&code);
+            if number == 0 {
+                assert!(line.starts_with("answered "), "{case}: {line}");
+            } else {
+                assert_eq!(line, refused_line(number, &case), "{case}");
+            }
+        }
     }
 }
 

@@ -1,6 +1,6 @@
 //! The cases of encoding, reading back, syndromes and codeword bytes.
 
-use super::WORD_BOUNDS;
+use super::{refusals, WORD_BOUNDS};
 use crate::chance::Chance;
 use crate::code::{Code, MESSAGES, POSITIONS, WORDS};
 use crate::line::Case;
@@ -40,6 +40,7 @@ pub fn fixed(code: &Code, chance: &mut Chance) -> Vec<Case> {
     cases.extend((0..100).map(|_| Case::Encode(chance.below(u64::from(MESSAGES)) as u32)));
     cases.extend(words_of_at_most_two_ones().into_iter().map(Case::Syndrome));
     cases.extend((0..FIXED_ROUNDS).flat_map(|_| round(code, chance)));
+    cases.extend(refusals::cases(refusals::golay()));
     cases
 }
 

@@ -1,6 +1,6 @@
 //! The cases of correction and of the six candidates.
 
-use super::WORD_BOUNDS;
+use super::{refusals, WORD_BOUNDS};
 use crate::chance::Chance;
 use crate::code::{Code, POSITIONS, WORDS};
 use crate::line::Case;
@@ -40,6 +40,7 @@ pub fn fixed(code: &Code, chance: &mut Chance) -> Vec<Case> {
         cases.push(Case::Correct(pattern ^ any_codeword(chance, code)));
     }
     cases.extend((0..FIXED_ROUNDS).flat_map(|_| round(code, chance)));
+    cases.extend(refusals::cases(refusals::hard()));
     cases
 }
 

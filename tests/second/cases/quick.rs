@@ -1,6 +1,6 @@
 //! The cases of the quick decoder.
 
-use super::{readings_of_the_document, refused_readings};
+use super::{readings_of_the_document, refusals, refused_readings};
 use crate::chance::Chance;
 use crate::code::{Code, COLUMNS, POSITIONS};
 use crate::line::Case;
@@ -14,7 +14,9 @@ pub fn seeded(code: &Code, chance: &mut Chance) -> Vec<Case> {
 }
 
 pub fn fixed(code: &Code, chance: &mut Chance) -> Vec<Case> {
-    gathered(code, chance, FIXED_READINGS)
+    let mut cases = gathered(code, chance, FIXED_READINGS);
+    cases.extend(refusals::cases(refusals::quick()));
+    cases
 }
 
 fn gathered(code: &Code, chance: &mut Chance, many: usize) -> Vec<Case> {
@@ -50,7 +52,7 @@ fn of_column_sizes(sizes: [i32; COLUMNS]) -> Vec<i32> {
 }
 
 /// All six candidates tie.
-fn tied() -> Vec<i32> {
+pub fn tied() -> Vec<i32> {
     of_column_sizes([1; COLUMNS])
 }
 

@@ -1,7 +1,7 @@
 //! The cases of the soft decoder and of the class figures.
 
 use super::{
-    of_length, readings_of_the_document, refused_readings, sharp, with_confidence, zeros,
+    of_length, readings_of_the_document, refusals, refused_readings, sharp, with_confidence, zeros,
     WRONG_LENGTHS,
 };
 use crate::chance::Chance;
@@ -36,7 +36,9 @@ pub fn seeded(code: &Code, chance: &mut Chance) -> Result<Vec<Case>, String> {
 }
 
 pub fn fixed(code: &Code, chance: &mut Chance) -> Result<Vec<Case>, String> {
-    gathered(code, chance, FIXED)
+    let mut cases = gathered(code, chance, FIXED)?;
+    cases.extend(refusals::cases(refusals::soft()));
+    Ok(cases)
 }
 
 fn gathered(code: &Code, chance: &mut Chance, many: Amounts) -> Result<Vec<Case>, String> {

@@ -1,0 +1,107 @@
+//! Each refusal on both sides of its boundary, and the refusals that can apply at once, with the
+//! number that document 01's order gives: lengths first, then 2, 3, 4 and 11, then 5, then the rest.
+//! Number 0 is an answer.
+
+use super::{of_length, ones, quick, with_confidence, zeros};
+use crate::code::POSITIONS;
+use crate::decoders::FORBIDDEN;
+use crate::line::Case;
+
+const CODEWORD: u32 = 0xFF_FFFF;
+const NO_CODEWORD: u32 = 0xFF_FFFE;
+const AT_THREE: u32 = 0x70_0000;
+const AT_FOUR: u32 = 0xF0_0000;
+/// Added to a word, makes it one above the range: cutting it off must not pass.
+const ABOVE: u32 = 0x100_0000;
+
+type Row = (u8, Case);
+
+pub fn cases(rows: Vec<Row>) -> impl Iterator<Item = Case> {
+    rows.into_iter().map(|(_, case)| case)
+}
+
+pub fn golay() -> Vec<Row> {
+    let mut rows = vec![
+        (0, Case::Encode(4_095)),
+        (3, Case::Encode(4_096)),
+        (3, Case::Encode(u32::MAX)),
+        (0, Case::Syndrome(NO_CODEWORD)),
+        (4, Case::Syndrome(ABOVE)),
+        (4, Case::Syndrome(u32::MAX)),
+        (0, Case::Read(CODEWORD)),
+        (5, Case::Read(NO_CODEWORD)),
+        (4, Case::Read(ABOVE)),
+        (4, Case::Read(ABOVE + NO_CODEWORD)),
+        (0, Case::ReadBytes(vec![255; 3])),
+        (5, Case::ReadBytes(vec![255, 255, 254])),
+    ];
+    for (number, word) in [
+        (0, CODEWORD),
+        (5, NO_CODEWORD),
+        (4, ABOVE + CODEWORD),
+        (4, ABOVE + NO_CODEWORD),
+    ] {
+        rows.push((number, Case::WriteBytes(word, vec![7; 3])));
+        rows.extend([0, 1, 2, 4, 5, 24].map(|length| (1, Case::WriteBytes(word, vec![7; length]))));
+    }
+    for length in [0, 1, 2, 4, 5, 24] {
+        rows.extend([255, 254].map(|byte| (1, Case::ReadBytes(vec![byte; length]))));
+    }
+    rows
+}
+
+pub fn hard() -> Vec<Row> {
+    let mut rows = vec![
+        (0, Case::Correct(CODEWORD)),
+        (0, Case::Correct(AT_THREE)),
+        (7, Case::Correct(AT_FOUR)),
+        (4, Case::Correct(ABOVE)),
+        (4, Case::Correct(ABOVE + AT_FOUR)),
+        (4, Case::Correct(u32::MAX)),
+    ];
+    for (number, word) in [
+        (0, AT_FOUR),
+        (8, AT_THREE),
+        (8, CODEWORD),
+        (4, ABOVE + AT_FOUR),
+        (4, ABOVE + AT_THREE),
+    ] {
+        rows.push((number, Case::Candidates(word, vec![7; 6])));
+        rows.extend(
+            [0, 1, 2, 3, 4, 5, 7, 24].map(|count| (1, Case::Candidates(word, vec![7; count]))),
+        );
+    }
+    rows
+}
+
+/// A call on a reading, which gives one number where no word ties and one where some do.
+fn of_readings(call: impl Fn(Vec<i32>) -> Case, clear: u8, tied: &[i32], tie: u8) -> Vec<Row> {
+    let mut rows = vec![
+        (clear, call(ones())),
+        (clear, call(vec![FORBIDDEN + 1; POSITIONS])),
+        (tie, call(tied.to_vec())),
+    ];
+    for place in [0, 11, 23] {
+        rows.push((2, call(with_confidence(&ones(), place, FORBIDDEN))));
+        rows.push((2, call(with_confidence(tied, place, FORBIDDEN))));
+    }
+    for length in [0, 1, 6, 23, 25, 48] {
+        rows.push((1, call(of_length(&ones(), length))));
+        rows.push((1, call(of_length(tied, length))));
+        rows.push((1, call(vec![FORBIDDEN; length])));
+    }
+    rows
+}
+
+pub fn soft() -> Vec<Row> {
+    let mut rows = of_readings(Case::Soft, 0, &zeros(), 6);
+    for (number, class) in [(0, 0), (0, 127), (11, 128), (11, u32::MAX)] {
+        let figure = |reading| Case::ClassFigure(class, reading);
+        rows.extend(of_readings(figure, number, &zeros(), number));
+    }
+    rows
+}
+
+pub fn quick() -> Vec<Row> {
+    of_readings(Case::Quick, 0, &quick::tied(), 6)
+}
