@@ -1,4 +1,4 @@
-# Sourced by ./test and ./run: the tools that this machine lacks, and how it compiles and runs programs for x86-64.
+# Sourced by ./test, ./run and ./bench: the tools that this machine lacks, and how it compiles and runs programs for x86-64.
 # Programs are for x86-64 whatever the machine; on Arm they run under the emulator of the Rattle kit.
 
 say() { printf '%s\n' "$*"; }
@@ -21,23 +21,41 @@ kit() {
     dirname "$(dirname "$guide")"
 }
 
-# Sets host_cc, host_cxx (compilers for x86-64) and emulator (empty where none is needed).
-hosts() {
+# Sets emulator: what runs programs for x86-64, empty where the machine does.
+machine() {
     case $(uname -m) in
-    x86_64)
-        need cc gcc
-        need c++ g++
-        host_cc=cc host_cxx=c++ emulator=''
-        ;;
+    x86_64) emulator='' ;;
     aarch64)
-        need x86_64-linux-gnu-gcc gcc-x86-64-linux-gnu
-        need x86_64-linux-gnu-g++ g++-x86-64-linux-gnu
-        host_cc=x86_64-linux-gnu-gcc host_cxx=x86_64-linux-gnu-g++
         emulator=$(kit)/on/aarch64/toolchain/bin/qemu-x86_64
         [ -x "$emulator" ] || die "the Rattle kit has no emulator at $emulator"
         ;;
     *) die "neither x86-64 nor aarch64, but $(uname -m): the Rattle kit has nothing for it" ;;
     esac
+}
+
+# Sets host_cc, host_cxx (compilers for x86-64) and host_size (sizes of what they make) too.
+hosts() {
+    machine
+    if [ -z "$emulator" ]; then
+        host_cc=cc host_cxx=c++ host_size=size
+        need cc gcc
+        need c++ g++
+    else
+        host_cc=x86_64-linux-gnu-gcc host_cxx=x86_64-linux-gnu-g++ host_size=x86_64-linux-gnu-size
+        need x86_64-linux-gnu-gcc gcc-x86-64-linux-gnu
+        need x86_64-linux-gnu-g++ g++-x86-64-linux-gnu
+    fi
+    mkdir -p target/log
     printf 'int main(void){return 0;}\n' >target/probe.c
     "$host_cc" -static -o target/probe target/probe.c 2>/dev/null || die "$host_cc links no static program; on Arm it needs Debian's libc6-dev-amd64-cross"
+}
+
+# The library of the entry points, proved.
+library() { rt staticlib drive >target/log/staticlib.out 2>&1 || { cat target/log/staticlib.out; return 1; }; }
+
+# host PROGRAM FILE..: a C program over the library
+host() {
+    program=$1
+    shift
+    "$host_cc" -std=c99 -O2 -Wall -Wextra -Werror -static -Iinclude -o "target/$program" "$@" target/staticlib/libdrive.a
 }

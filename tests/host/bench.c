@@ -1,50 +1,25 @@
 /* Runs one call many times, for ./bench to count executed instructions: the difference between two
  * counts of calls is the calls alone. The inputs are made before the loop, from a fixed seed. */
 #include "garthumor.h"
+#include "inputs.h"
 #include "peers.h"
 
 #include <stdio.h>
 #include <stdlib.h>
 #include <string.h>
 
-enum { READINGS = 64, POSITIONS = 24 };
+enum { READINGS = 64 };
 
 static int32_t readings[READINGS][POSITIONS];
 static uint32_t numbers[READINGS];
-static uint64_t state = 0x9E3779B97F4A7C15u;
 
-static uint32_t chance(void)
-{
-    state = state * 6364136223846793005u + 1442695040888963407u;
-    return (uint32_t)(state >> 32);
-}
-
-static int32_t within(int32_t size) { return (int32_t)(chance() % (2u * (uint32_t)size + 1u)) - size; }
-
-/* decent: a codeword at 1,000,000 with noise up to 700,000; weak: sizes 0 to 3; full: the whole
- * range; extreme: the range's ends and zeros; zeros: nothing heard. */
-static int32_t confidence(const char *kind, int one)
-{
-    static const int32_t ends[3] = { -INT32_MAX, 0, INT32_MAX };
-    if (strcmp(kind, "decent") == 0)
-        return (one ? -1000000 : 1000000) + within(700000);
-    if (strcmp(kind, "weak") == 0)
-        return within(3);
-    if (strcmp(kind, "full") == 0)
-        return within(INT32_MAX);
-    if (strcmp(kind, "extreme") == 0)
-        return ends[chance() % 3];
-    return 0;
-}
-
-static void prepare(const char *kind)
+static void prepare(enum kind kind)
 {
     for (int r = 0; r < READINGS; r++) {
         uint32_t codeword = 0;
         numbers[r] = chance() % 16777216;
         garthumor_encode(numbers[r] % 4096, &codeword);
-        for (int i = 0; i < POSITIONS; i++)
-            readings[r][i] = confidence(kind, codeword >> (23 - i) & 1);
+        fill_reading(readings[r], kind, codeword);
     }
 }
 
@@ -78,7 +53,7 @@ int main(int argc, char **argv)
         return 2;
     }
     peers_start();
-    prepare(argv[2]);
+    prepare(kind_named(argv[2]));
     int first = atoi(argv[3]), count = atoi(argv[4]);
     for (size_t c = 0; c < sizeof calls / sizeof calls[0]; c++) {
         if (strcmp(calls[c].name, argv[1]) != 0)

@@ -2,11 +2,10 @@
  *
  * The line format is the second program's (tests/second/line.rs). Whatever the library gets a
  * pointer to lies between guard bytes; where those or an output break, the answer line is
- * `broken GUARD ...`, which no comparison passes.
- *
- * GARTHUMOR_HARD, GARTHUMOR_SOFT and GARTHUMOR_QUICK compile the rooms beyond the first in. */
+ * `broken GUARD ...`, which no comparison passes. */
 
 #include "garthumor.h"
+#include "lent.h"
 
 #include <inttypes.h>
 #include <stddef.h>
@@ -15,24 +14,9 @@
 #include <stdlib.h>
 #include <string.h>
 
-enum { GUARD = 64, MOST_PIECES = 8, MOST_NUMBERS = 64, LINE_BYTES = 1024 };
-
-/* What the library may do with a piece of memory. */
-enum role {
-    INPUT,  /* must never change */
-    OUTPUT, /* must keep its pattern on a refusal */
-    MEMORY  /* shown in the answer line whatever happens */
-};
+enum { MOST_NUMBERS = 64, LINE_BYTES = 1024 };
 
 enum outcome { ANSWERED, REFUSED, BROKEN };
-
-struct piece {
-    const char *name;
-    enum role role;
-    size_t size;
-    unsigned char *block; /* guard, contents, guard */
-    unsigned char *before; /* the contents before the call */
-};
 
 /* A case: the message, word or class where the call has one, and the numbers after it. */
 struct given {
@@ -46,11 +30,9 @@ struct call {
     int has_head;
     size_t most_numbers;
     int64_t least, most;
-    void (*replay)(const struct given *given); /* NULL where the room isn't compiled in */
+    void (*replay)(const struct given *given);
 };
 
-static struct piece pieces[MOST_PIECES];
-static size_t piece_count;
 static unsigned long line_number;
 
 static void fail(const char *reason, const char *what)
@@ -60,90 +42,14 @@ static void fail(const char *reason, const char *what)
     exit(1);
 }
 
-/* Differs from place to place, so that bytes moved within the guard are seen too. */
-static unsigned char guard_byte(size_t place)
-{
-    return (unsigned char)(0xC3u ^ (place * 37u));
-}
-
-static void *allocate(size_t size)
-{
-    void *memory = malloc(size);
-    if (memory == NULL)
-        fail("no memory left", "");
-    return memory;
-}
-
-/* Allocated afresh for each call: such memory takes the type that the library writes, and memory
- * checkers see its ends. */
-static void *lend(enum role role, const char *name, const void *contents, size_t size)
-{
-    if (piece_count == MOST_PIECES)
-        fail("too many pieces of memory for ", name);
-    struct piece *piece = &pieces[piece_count++];
-    piece->name = name;
-    piece->role = role;
-    piece->size = size;
-    piece->block = allocate(GUARD + size + GUARD);
-    piece->before = allocate(size + 1);
-    for (size_t i = 0; i < GUARD; i++) {
-        piece->block[i] = guard_byte(i);
-        piece->block[GUARD + size + i] = guard_byte(GUARD + i);
-    }
-    memcpy(piece->before, contents, size);
-    memcpy(piece->block + GUARD, contents, size);
-    return piece->block + GUARD;
-}
-
-static void *lend_output(const char *name, size_t size)
-{
-    unsigned char pattern[sizeof(int64_t)];
-    memset(pattern, 0xA5, sizeof pattern);
-    return lend(OUTPUT, name, pattern, size);
-}
-
-static void give_back(void)
-{
-    for (size_t i = 0; i < piece_count; i++) {
-        free(pieces[i].block);
-        free(pieces[i].before);
-    }
-    piece_count = 0;
-}
-
-static int guard_holds(const unsigned char *guard, size_t first)
-{
-    for (size_t i = 0; i < GUARD; i++)
-        if (guard[i] != guard_byte(first + i))
-            return 0;
-    return 1;
-}
-
-/* What is wrong with a piece after a call, or NULL. */
-static const char *breach(const struct piece *piece, uint8_t refusal)
-{
-    if (!guard_holds(piece->block, 0))
-        return "written before its start";
-    if (!guard_holds(piece->block + GUARD + piece->size, GUARD))
-        return "written past its end";
-    if (memcmp(piece->block + GUARD, piece->before, piece->size) == 0)
-        return NULL;
-    if (piece->role == INPUT)
-        return "changed, though only lent for reading";
-    if (piece->role == OUTPUT && refusal != 0)
-        return "written on a refusal";
-    return NULL;
-}
-
 /* Begins the answer line; the values of an answer, or the lent memory, follow it. */
 static enum outcome settle(uint8_t refusal)
 {
-    for (size_t i = 0; i < piece_count; i++) {
-        const char *wrong = breach(&pieces[i], refusal);
-        if (wrong != NULL) {
-            printf("broken GUARD %s %s", pieces[i].name, wrong);
-            return BROKEN;
-        }
+    const char *name;
+    const char *wrong = breach(refusal, &name);
+    if (wrong != NULL) {
+        printf("broken GUARD %s %s", name, wrong);
+        return BROKEN;
     }
     if (refusal != 0) {
         printf("refused %u", (unsigned)refusal);
@@ -205,7 +111,6 @@ static void replay_read_bytes(const struct given *given)
         print_number(*codeword);
 }
 
-#ifdef GARTHUMOR_HARD
 static void replay_correct(const struct given *given)
 {
     uint32_t *codeword = lend_output("codeword", sizeof *codeword);
@@ -228,12 +133,7 @@ static void replay_candidates(const struct given *given)
     for (size_t i = 0; i < given->count; i++)
         print_number(slots[i]);
 }
-#else
-#define replay_correct NULL
-#define replay_candidates NULL
-#endif
 
-#if defined GARTHUMOR_SOFT || defined GARTHUMOR_QUICK
 static const int32_t *lend_reading(const struct given *given)
 {
     int32_t confidences[MOST_NUMBERS];
@@ -241,9 +141,7 @@ static const int32_t *lend_reading(const struct given *given)
         confidences[i] = (int32_t)given->numbers[i];
     return lend(INPUT, "reading", confidences, given->count * sizeof *confidences);
 }
-#endif
 
-#ifdef GARTHUMOR_SOFT
 static void print_wide_number(int64_t number)
 {
     printf(" %" PRId64, number);
@@ -273,12 +171,7 @@ static void replay_soft(const struct given *given)
     print_wide_number(*correlation);
     print_wide_number(*reserve);
 }
-#else
-#define replay_class_figure NULL
-#define replay_soft NULL
-#endif
 
-#ifdef GARTHUMOR_QUICK
 static void replay_quick(const struct given *given)
 {
     const int32_t *reading = lend_reading(given);
@@ -286,9 +179,6 @@ static void replay_quick(const struct given *given)
     if (settle(garthumor_quick(reading, given->count, codeword)) == ANSWERED)
         print_number(*codeword);
 }
-#else
-#define replay_quick NULL
-#endif
 
 static const struct call calls[] = {
     { "encode", 1, 0, 0, 0, replay_encode },
@@ -359,8 +249,6 @@ static void replay_line(char *line)
     struct given given;
     char *rest = line;
     const struct call *call = call_named(next_word(&rest));
-    if (call->replay == NULL)
-        fail("not compiled in: ", call->name);
     read_numbers(call, rest, &given);
     call->replay(&given);
     putchar('\n');
