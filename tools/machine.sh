@@ -21,16 +21,19 @@ kit() {
     dirname "$(dirname "$guide")"
 }
 
-# Sets emulator: what runs programs for x86-64, empty where the machine does.
+# Sets emulator, what runs a static program for x86-64 (empty where the machine does), and loader, the words that come before a proved
+# program too: it is linked to the kit's C library, and `rt` runs it so.
 machine() {
     case $(uname -m) in
-    x86_64) emulator='' ;;
+    x86_64) emulator='' tools=$(kit)/toolchain ;;
     aarch64)
-        emulator=$(kit)/on/aarch64/toolchain/bin/qemu-x86_64
+        tools=$(kit)/on/aarch64/toolchain
+        emulator=$tools/bin/qemu-x86_64
         [ -x "$emulator" ] || die "the Rattle kit has no emulator at $emulator"
         ;;
     *) die "neither x86-64 nor aarch64, but $(uname -m): the Rattle kit has nothing for it" ;;
     esac
+    loader=("$tools/lib/ld-linux-x86-64.so.2" --library-path "$tools/lib")
 }
 
 # Sets host_cc, host_cxx (compilers for x86-64) and host_size (sizes of what they make) too.
