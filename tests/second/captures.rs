@@ -11,8 +11,8 @@ use crate::code::Code;
 use crate::compare::{Report, SHOWN};
 use child::Written;
 use std::fs;
-use std::io::{self, IsTerminal};
-use std::sync::atomic::{AtomicUsize, Ordering};
+use std::io;
+use std::process::Command;
 use std::sync::Mutex;
 use std::thread;
 use trials::Trial;
@@ -49,15 +49,19 @@ fn emptied_folder() -> io::Result<()> {
 
 /// What to show of each trial in which the program wrote something else, in the trials' order.
 fn differing(code: &Code, program: &[&str], trials: &[Trial]) -> Vec<String> {
-    let next = AtomicUsize::new(0);
+    let left = Mutex::new(trials.iter().enumerate());
+    let next = || left.lock().expect("the trials left").next();
     let found = Mutex::new(Vec::new());
-    let work = || loop {
-        let i = next.fetch_add(1, Ordering::Relaxed);
-        let Some(trial) = trials.get(i) else { break };
-        if let Some(difference) = tried(code, program, trial) {
-            found.lock().expect("the list").push((i, difference));
+    let watched = is_watched();
+    let work = || {
+        while let Some((i, trial)) = next() {
+            if let Some(difference) = tried(code, program, trial) {
+                found.lock().expect("the list").push((i, difference));
+            }
+            if watched {
+                show_progress(i + 1, trials.len());
+            }
         }
-        show_progress(i + 1, trials.len());
     };
     thread::scope(|scope| (0..THREADS).for_each(|_| drop(scope.spawn(work))));
     let mut found = found.into_inner().expect("the list");
@@ -68,8 +72,14 @@ fn differing(code: &Code, program: &[&str], trials: &[Trial]) -> Vec<String> {
         .collect()
 }
 
+/// Whether standard error is a terminal. Debian 12's Rust has no call for it, so `test` is asked.
+fn is_watched() -> bool {
+    let asked = Command::new("test").args(["-t", "2"]).status();
+    asked.map_or(false, |status| status.success())
+}
+
 fn show_progress(done: usize, all: usize) {
-    if io::stderr().is_terminal() && (done % PROGRESS == 0 || done == all) {
+    if done % PROGRESS == 0 || done == all {
         let end = if done == all { "\n" } else { "\r" };
         eprint!("{done} of {all} captures{end}");
     }

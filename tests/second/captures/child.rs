@@ -92,8 +92,9 @@ fn started(program: &[&str], input: Input, file: &str) -> io::Result<Child> {
 
 /// Feeds a pipe while the output is taken, so that neither side waits for the other for ever.
 fn ended(mut child: Child, trial: &Trial) -> io::Result<Output> {
-    let Input::Pipe(pieces) = trial.input else {
-        return child.wait_with_output();
+    let pieces = match trial.input {
+        Input::Pipe(pieces) => pieces,
+        _ => return child.wait_with_output(),
     };
     let pipe = child.stdin.take().expect("a pipe");
     thread::scope(|scope| {

@@ -138,12 +138,12 @@ fn changed(code: &Code, chance: &mut Chance) -> Vec<Trial> {
     let mut trials = Vec::new();
     for place in 0..CHANGED_BYTES {
         let other = bytes[place] ^ chance.between(1, 255) as u8;
-        let tried: &[u8] = if place % RECORD < MARK.len() {
-            &MARK_BYTES
+        let tried = if place % RECORD < MARK.len() {
+            MARK_BYTES.to_vec()
         } else {
-            &[other]
+            vec![other]
         };
-        for &byte in tried {
+        for byte in tried {
             let mut bytes = bytes.to_vec();
             bytes[place] = byte;
             let input = WHOLE[place % WHOLE.len()];
@@ -168,7 +168,8 @@ fn random(code: &Code, chance: &mut Chance) -> Vec<Trial> {
     trials
 }
 
-/// Lengths around multiples of a piece and of the whole records in it, whole and in odd pieces.
+/// Lengths from a record below to a record above the multiples of a piece and of the whole records
+/// in it, given whole and in odd pieces.
 fn near_pieces(code: &Code, chance: &mut Chance) -> Vec<Trial> {
     let odd_pieces = Input::Pipe(Pieces {
         first: 97,
@@ -180,8 +181,11 @@ fn near_pieces(code: &Code, chance: &mut Chance) -> Vec<Trial> {
     let mut trials = Vec::new();
     for unit in [PIECE, RECORDS_IN_A_PIECE * RECORD] {
         for many in 1..=3 {
-            for (i, more) in [-98, -97, -2, -1, 0, 1, 2, 97, 98].into_iter().enumerate() {
-                let length = (many * unit).saturating_add_signed(more);
+            for (i, more) in [0, 1, 96, 97, 98, 99, 100, 195, 196]
+                .into_iter()
+                .enumerate()
+            {
+                let length = many * unit - RECORD + more;
                 let input = inputs[(i + many) % inputs.len()];
                 trials.push(trial(format!("length-{length}"), &bytes[..length], input));
             }
