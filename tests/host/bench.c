@@ -43,7 +43,7 @@ static uint8_t read_back(int r) { return garthumor_read(codewords[r], &one); }
 static uint8_t syndrome(int r) { return garthumor_syndrome(numbers[r], &one); }
 static uint8_t correct(int r) { return garthumor_correct(numbers[r], &one, &other); }
 static uint8_t candidates(int r) { return garthumor_candidates(numbers[r], slots, SLOTS); }
-static uint8_t class_figure(int r) { return garthumor_class_figure(readings[r], POSITIONS, numbers[r] % CLASSES, &wide); }
+static uint8_t figure(int r) { return garthumor_class_figure(readings[r], POSITIONS, numbers[r] % CLASSES, &wide); }
 static uint8_t soft(int r) { return garthumor_soft(readings[r], POSITIONS, &one, &other, &wide, &more); }
 static uint8_t quick(int r) { return garthumor_quick(readings[r], POSITIONS, &one); }
 static uint8_t write_bytes(int r) { return garthumor_write_bytes(codewords[r], bytes, WORD_BYTES); }
@@ -65,7 +65,7 @@ static const struct call calls[] = {
     { "syndrome", syndrome, 1 },
     { "correct", correct, 1 },
     { "candidates", candidates, 1 },
-    { "class_figure", class_figure, 1 },
+    { "class_figure", figure, 1 },
     { "soft", soft, 1 },
     { "quick", quick, 1 },
     { "write_bytes", write_bytes, 1 },

@@ -216,7 +216,8 @@ static struct outcome try_candidates(void)
     uint32_t *slots = lend(OUTPUT, "slots", contents, count * sizeof *slots);
     uint8_t given = garthumor_candidates(word, slots, count);
     uint8_t asked = count != SLOTS ? 1 : asked_of_word(word) != 0 ? 4 : is_corrected(word) ? 8 : 0;
-    return judged(given, asked, given == 0 && are_candidates(word, slots), "not six codewords at distance 4, ascending");
+    int fact = given == 0 && are_candidates(word, slots);
+    return judged(given, asked, fact, "not six codewords at distance 4, ascending");
 }
 
 static struct outcome try_class_figure(void)
@@ -307,7 +308,8 @@ static int one_call(unsigned long number, int shown)
     const char *wrong = breach(outcome.given, &name);
     if (wrong == NULL)
         wrong = outcome.wrong;
-    if (wrong == NULL && outcome.given != outcome.asked && !(calls[which].may_tie && outcome.asked == 0 && outcome.given == 6))
+    int tied = calls[which].may_tie && outcome.asked == 0 && outcome.given == 6;
+    if (wrong == NULL && outcome.given != outcome.asked && !tied)
         wrong = "another number than the arguments ask for";
     if (wrong != NULL && shown)
         printf("call %lu, %s, given %u, asked %u: %s: %s\n", number, calls[which].name, (unsigned)outcome.given,
