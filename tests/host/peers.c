@@ -1,26 +1,8 @@
 #include "peers.h"
 
-enum { POSITIONS = 24, MESSAGES = 4096, COLUMNS = 6, CLASSES = 128 };
+enum { COLUMNS = 6, CLASSES = 128 };
 
-static uint32_t codewords[MESSAGES];
-
-uint32_t field_decode(const int32_t *reading)
-{
-    int32_t best = INT32_MIN, x[POSITIONS];
-    uint32_t at = 0;
-    for (int i = 0; i < POSITIONS; i++)
-        x[i] = reading[i] / 65536;
-    for (uint32_t m = 0; m < MESSAGES; m++) {
-        int32_t sum = 0;
-        for (int i = 0; i < POSITIONS; i++)
-            sum += codewords[m] >> (23 - i) & 1 ? -x[i] : x[i];
-        if (sum > best) {
-            best = sum;
-            at = m;
-        }
-    }
-    return at;
-}
+int8_t peer_signs[MESSAGES][POSITIONS];
 
 static int most_negative(const int32_t *reading)
 {
@@ -47,7 +29,7 @@ uint8_t plain_decode(const int32_t *reading, uint32_t *message, int64_t *correla
     for (uint32_t m = 0; m < MESSAGES; m++) {
         int64_t sum = 0;
         for (int i = 0; i < POSITIONS; i++)
-            sum += codewords[m] >> (23 - i) & 1 ? -(int64_t)reading[i] : reading[i];
+            sum += peer_signs[m][i] * (int64_t)reading[i];
         if (sum > best) {
             second = best;
             best = sum;
@@ -201,10 +183,12 @@ void peers_start(void)
         0x005555, 0x030356, 0x050563, 0x300365, 0x500536, 0x777778,
     };
     for (uint32_t m = 0; m < MESSAGES; m++) {
-        codewords[m] = 0;
+        uint32_t codeword = 0;
         for (int i = 0; i < 12; i++)
             if (m >> i & 1)
-                codewords[m] ^= rows[i];
+                codeword ^= rows[i];
+        for (int i = 0; i < POSITIONS; i++)
+            peer_signs[m][i] = codeword >> (23 - i) & 1 ? -1 : 1;
     }
     blocks_of_classes();
 }

@@ -2,9 +2,17 @@
 #ifndef PEERS_H
 #define PEERS_H
 
+#include "inputs.h"
+
 #include <stdint.h>
 
-/* Fills the list of 4,096 codewords that the first two go through. */
+enum { MESSAGES = 4096 };
+
+/* Of all 4,096 codewords, 1 where a position has bit 0 and -1 where it has bit 1; the first two
+ * decoders go through it. */
+extern int8_t peer_signs[MESSAGES][POSITIONS];
+
+/* Fills it, and what the third needs. */
 void peers_start(void);
 
 /* The decoder in the field: divides each confidence by 65,536, correlates with all 4,096 codewords
