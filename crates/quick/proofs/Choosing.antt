@@ -9,7 +9,7 @@ use native.Mathlib.Decide.{ℕ-discrete, decLt}
 use lib.IntN.{ℤ, pos, negℤ}
 use lib.ListN.{length, getD}
 use lib.Signed.{_≤ℤ_, _<ℤ_}
-use Rattle.signed.proofs.Parts.{parts, le-parts, eq-parts}
+use Rattle.signed.proofs.Parts.{parts, le-parts, lt-parts}
 use Rattle.binary.specs.Words.{ones}
 use Rattle.contest.specs.Largest.{Best}
 use Rattle.code.specs.Code.{words, syndromeOf}
@@ -87,8 +87,8 @@ apart cs a j k hj hk d e = go (decLt j k)
 merit-le : (x y : ℕ) → negℤ (pos x) ≤ℤ negℤ (pos y) → y ≤ x
 merit-le x y h = omega (arith, simp parts at (le-parts h))
 
-merit-eq : (x y : ℕ) → negℤ (pos x) ≡ negℤ (pos y) → x ≡ y
-merit-eq x y e = omega (arith, simp parts at (eq-parts e))
+merit-lt : (x y : ℕ) → negℤ (pos x) <ℤ negℤ (pos y) → y < x
+merit-lt x y h = omega (arith, simp parts at (lt-parts h))
 
 module _ {word : ℕ} (xs : List ℤ) {slots : List ℕ} (C : Candidates word slots) {b s : ℤ} {m : ℕ} (B : Best (merits word xs slots) 0 6 b s m) where
   costAt : ℕ → ℕ
@@ -113,12 +113,15 @@ module _ {word : ℕ} (xs : List ℤ) {slots : List ℕ} (C : Candidates word sl
       rw (P .is) at (merit-le (costOf word xs (getD slots (P .at) 0)) (costAt m) h)
 
   -- the second is the cost at the runner
-  next-cost : (b ≡ s → costAt m ≡ costAt (B .runner)) × (costAt m ≡ costAt (B .runner) → b ≡ s)
+  leads : s <ℤ b → costAt m < costAt (B .runner)
   unfolding costAt
-  next-cost = (
-    (λ e. merit-eq (costAt m) (costAt (B .runner)) (sym (B .best) ∙ e ∙ B .second)),
-    (λ e. B .best ∙ ap (λ (x : ℕ). negℤ (pos x)) e ∙ sym (B .second)),
-  )
+  leads h = merit-lt (costAt (B .runner)) (costAt m) (rw (B .best, B .second) at h)
+
+  ties : b ≤ℤ s → costAt m ≡ costAt (B .runner)
+  unfolding costAt
+  ties h =
+      omega
+      (arith, merit-le (costAt m) (costAt (B .runner)) (rw (B .best, B .second) at h), least (getD slots (B .runner) 0) (each (B .runner) (B .next .below)))
 
   -- and every candidate but that at m costs at least as much
   others : (d : ℕ) → Candidate word d → d ≢ getD slots m 0 → costAt (B .runner) ≤ costOf word xs d
@@ -129,22 +132,20 @@ module _ {word : ℕ} (xs : List ℤ) {slots : List ℕ} (C : Candidates word sl
       let h = B .next .most (P .at) (omega arith) (omega (arith, P .below, C .six)) q in
       rw (P .is) at (merit-le (costOf word xs (getD slots (P .at) 0)) (costAt (B .runner)) h)
 
-  pub chosen-alone : b ≢ s → Chosen word xs (accepted (getD slots m 0))
+  pub chosen-alone : s <ℤ b → Chosen word xs (accepted (getD slots m 0))
   unfolding costAt
-  chosen-alone d =
-      let l = least (getD slots (B .runner) 0) (each (B .runner) (B .next .below)) in
-      let n : costAt m ≢ costAt (B .runner) = λ e. d (next-cost .1 e) in
-      alone (record { candidate = each m (B .largest .below); cheaper = λ k K q. omega (arith, others k K q) })
+  chosen-alone h =
+      alone (record { candidate = each m (B .largest .below); cheaper = λ k K q. omega (arith, others k K q, leads h) })
 
-  pub chosen-shared : b ≡ s → Chosen word xs (refused 6)
+  pub chosen-shared : b ≤ℤ s → Chosen word xs (refused 6)
   unfolding costAt
-  chosen-shared e =
+  chosen-shared h =
       shared (record {
         one = getD slots m 0;
         other = getD slots (B .runner) 0;
         candidate = each m (B .largest .below);
         candidate-other = each (B .runner) (B .next .below);
         different = apart slots (C .ascending) m (B .runner) (long m (B .largest .below)) (long (B .runner) (B .next .below)) (λ q. B .next .other (sym q));
-        equal = next-cost .0 e;
+        equal = ties h;
         least = least;
       })

@@ -107,7 +107,7 @@ fn chosen(word: u32, reading: &[i32]) -> QuickAnswer
     let kept = cheapest(word, &slots, reading);
     let best = kept.best;
     let second = kept.second;
-    if best == second {
+    if best <= second {
         return QuickAnswer::Refused(Refusal::Tied);
     }
     let at = kept.at as usize;

@@ -1,12 +1,11 @@
 -- The answer from the two largest correlations: tied where they are the same, else accepted with half their difference, which is whole.
 use mathlib.Core.Path.{_≡_, refl, sym, ap, _∙_}
-use mathlib.Core.Logic.{_≢_, _⊎_, inl, inr}
 use mathlib.Core.List.{List}
 use Prim.Native.Nat.{ℕ, _<_}
 use native.Mathlib.Omega.{arith}
 use lib.IntN.{ℤ, pos, _-ℤ_}
 use lib.Signed.{quotZ, _≤ℤ_, _<ℤ_}
-use Rattle.signed.proofs.Parts.{ints, le-or-lt}
+use Rattle.signed.proofs.Parts.{ints}
 use Rattle.signed.proofs.Bounds.{quot-double}
 use Rattle.contest.specs.Readings.{Reading, scores}
 use Rattle.contest.specs.Largest.{Best}
@@ -50,22 +49,15 @@ same-values : (xs : List ℤ) (m ρ : ℕ) {w : Codeword} {c r : ℤ} → w ≡ 
     → record { message = record { 0 = m }; codeword = w; correlation = c; reserve = r } ≡ values xs m ρ
 same-values xs m ρ e f g = rw (e, f, g) refl
 
-ahead : {f : ℕ → ℤ} {i j : ℕ} {b s : ℤ} {m : ℕ} → Best f i j b s m → b ≢ s → s <ℤ b
-ahead {b = b} {s = s} A d = go (le-or-lt b s)
-  where
-    go : (b ≤ℤ s) ⊎ (s <ℤ b) → s <ℤ b
-    go (inl h) = let g = behind A in absurd (d (omega ints))
-    go (inr h) = h
-
 module _ {xs : List ℤ} {b s : ℤ} {m : ℕ} (A : Best (scores word xs) 0 messages b s m) where
-  pub answer-tied : b ≡ s → Decides xs (refused 6)
-  answer-tied e = record { outcome = tied; answers = settled-tied A e; is = refl }
+  pub answer-tied : b ≤ℤ s → Decides xs (refused 6)
+  answer-tied h = let g = behind A in record { outcome = tied; answers = settled-tied A (omega ints); is = refl }
 
-  pub answer-accepted : {B : ℕ} → Reading B 24 xs → b ≢ s → {w : Codeword} {c r : ℤ}
+  pub answer-accepted : {B : ℕ} → Reading B 24 xs → s <ℤ b → {w : Codeword} {c r : ℤ}
       → w ≡ record { 0 = codewordOf m } → c ≡ b → r ≡ quotZ (b -ℤ s) (pos 2)
       → Decides xs (golay.accepted (record { message = record { 0 = m }; codeword = w; correlation = c; reserve = r }))
   answer-accepted X d e f g =
-      let a = settled family X A (ahead A d) in
+      let a = settled family X A d in
       record {
         outcome = accepted m (a .0);
         answers = a .2;

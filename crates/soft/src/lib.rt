@@ -65,14 +65,14 @@ fn half_lead(best: i64, second: i64) -> i64
     (best - second) / 2
 }
 
-// The answer, by the two largest: tied where they are the same.
+// The answer, by the two largest: tied where the first does not lead.
 fn answered(t: Keeper) -> SoftAnswer
     requires { ⌜ Wide t ⌝ }
     ensures { λ r. ⌜ ((xs : List ℤ) → Reading 2147483647 24 xs → Tops (scores word xs) 0 messages t → Decides xs (softAnswer r)) ⌝ }
 {
     let best = t.best;
     let second = t.second;
-    if best == second {
+    if best <= second {
         return SoftAnswer::Refused(Refusal::Tied);
     }
     let reserve = half_lead(best, second);

@@ -7,7 +7,7 @@ use denote.Ref.{now}
 use borrow.Author.Needs.{needs}
 use mir.Syntax.{w64}
 use mir.Val.{SFits}
-use Rattle.signed.proofs.Locals.{eq-taken, eq-left}
+use Rattle.signed.proofs.Locals.{le-taken, le-left}
 use Rattle.quick.proofs.Choosing.{four-candidates, chosen-alone, chosen-shared}
 use Rattle.quick.proofs.chosen.Statement.{statement}
 use Rattle.quick.proofs.chosen.Tie as tie
@@ -32,7 +32,7 @@ returns c =
     let C = four-candidates (start .pre .1) refl (called .candidates .ensures) in
     let f : SFits w64 (kept .cheapest .result .best) = search needs in
     let g : SFits w64 (kept .cheapest .result .second) = search needs in
-    chosen-shared (now (start .args .reading)) C (kept .cheapest .ensures) (eq-taken f g (c .if1 .taken))
+    chosen-shared (now (start .args .reading)) C (kept .cheapest .ensures) (le-taken f g (c .if1 .taken))
 
 cast-at : tie.Need-cast-at
 cast-at c = search needs
@@ -52,7 +52,7 @@ returns-2 c =
     let C = four-candidates (start .pre .1) refl (called .candidates .ensures) in
     let f : SFits w64 (kept .cheapest .result .best) = search needs in
     let g : SFits w64 (kept .cheapest .result .second) = search needs in
-    chosen-alone (now (start .args .reading)) C (kept .cheapest .ensures) (eq-left f g (test .if1 .left))
+    chosen-alone (now (start .args .reading)) C (kept .cheapest .ensures) (le-left f g (test .if1 .left))
 
 pub chosen-spec : {M : Type 1} → statement M
 chosen-spec =

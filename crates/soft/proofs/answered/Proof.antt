@@ -4,7 +4,7 @@ use borrow.Author.Needs.{needs, sfits-of}
 use lib.Dec.{lit<}
 use mir.Syntax.{w64}
 use mir.Facts.{toZ-ofZ}
-use Rattle.signed.proofs.Locals.{fits, reads, eq-taken, eq-left}
+use Rattle.signed.proofs.Locals.{fits, reads, le-taken, le-left}
 use Rattle.soft.proofs.Answering.{encoded, not-refused, answer-tied, answer-accepted}
 use Rattle.soft.proofs.answered.Statement.{statement}
 use Rattle.soft.proofs.answered.Tie as tie
@@ -12,7 +12,7 @@ use Rattle.soft.proofs.answered.Tie as tie
 returns : tie.Need-returns
 returns c xs X A =
     let w = c .before .before .before .pre in
-    answer-tied A (eq-taken {w = w64} (fits (w .best) (lit< tt)) (fits (w .second) (lit< tt)) (c .if1 .taken))
+    answer-tied A (le-taken {w = w64} (fits (w .best) (lit< tt)) (fits (w .second) (lit< tt)) (c .if1 .taken))
 
 half-lead-requires : tie.Need-half-lead-requires
 half-lead-requires c κs =
@@ -34,7 +34,7 @@ returns-2 c xs X A =
     let halved = called .before in
     let w = halved .before .before .before .before .pre in
     let e = encoded (w .at) (called .encode .ensures) (c .before .codeword .given .1) in
-    let n = eq-left {w = w64} (fits (w .best) (lit< tt)) (fits (w .second) (lit< tt)) (halved .before .if1 .left) in
+    let n = le-left {w = w64} (fits (w .best) (lit< tt)) (fits (w .second) (lit< tt)) (halved .before .if1 .left) in
     let h = rw (reads (w .best) (lit< tt), reads (w .second) (lit< tt)) at (halved .half-lead .ensures) in
     answer-accepted A X n e (reads (w .best) (lit< tt)) (toZ-ofZ (sfits-of (halved .half-lead .ok)) ∙ h)
 
