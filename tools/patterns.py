@@ -2,12 +2,14 @@
 """The table of 4,096 error patterns of document 01, "Hard correction": for each syndrome the pattern with fewest ones, and of equals the
 smallest as a number.
 
-    tools/patterns.py rt        prints crates/hard/src/table.rt
-    tools/patterns.py antt      prints crates/patterns/proofs/Table.antt
-    tools/patterns.py --check   compares both files with what it would print; exit 1 where one differs
+    tools/patterns.py rt           prints crates/hard/src/table.rt
+    tools/patterns.py antt         prints crates/patterns/proofs/Table.antt
+    tools/patterns.py rows_0       prints crates/hard/proofs/table/rows_0/Proof.antt, and so for rows_1, rows_2 and rows_3
+    tools/patterns.py --write      writes all of them
+    tools/patterns.py --check      compares all of them with what it would print; exit 1 where one differs
 
-Both are printed in the layout of `rt fmt`. Nothing trusts this script: crates/patterns proves the rule of the list that it prints, and
-crates/hard that the source has that list.
+All are printed in the layout of `rt fmt`. Nothing trusts this script: crates/patterns proves the rule of the list that it prints, and
+crates/hard that the source's rows are that list's.
 """
 
 import itertools
@@ -17,6 +19,11 @@ import sys
 POSITIONS = 24
 SYNDROMES = 4_096
 MOST_ONES = 4
+
+# The source has its table in rows, and a function for each quarter of them.
+ROW = 32
+ROWS = 32
+QUARTERS = SYNDROMES // ROW // ROWS
 
 # a times b for the characters 0, 1, w, v, numbered 0 to 3
 PRODUCTS = ((0, 0, 0, 0), (0, 1, 2, 3), (0, 2, 3, 1), (0, 3, 1, 2))
@@ -67,13 +74,48 @@ def patterns():
     return [table[s] for s in range(SYNDROMES)]
 
 
+def source_row(table, n):
+    """A row of the source's table. Rows are numbered in hexadecimal."""
+    lines = [f"const ROW_{n:02X}: [u32; {ROW}] = ["]
+    lines += [f"    0x{pattern:06X}," for pattern in table[n * ROW:(n + 1) * ROW]]
+    return lines + ["];", ""]
+
+
+def source_rows(quarter):
+    """The function that picks one of a quarter's rows."""
+    lines = [
+        f"fn rows_{quarter}(row: u32) -> [u32; {ROW}]",
+        f"    requires {{ ⌜ row < {ROWS} ⌝ }}",
+        f"    ensures {{ λ r. ⌜ ArePatterns ({quarter * ROWS * ROW} + row * {ROW}) {ROW} r ⌝ }}",
+        "{",
+        "    match row {",
+    ]
+    lines += [f"        {row} => ROW_{quarter * ROWS + row:02X}," for row in range(ROWS - 1)]
+    lines += [f"        _ => ROW_{quarter * ROWS + ROWS - 1:02X},", "    }", "}", ""]
+    return lines
+
+
 def rt(table):
     lines = [
-        "// The error pattern of each syndrome. Printed by tools/patterns.py.",
-        f"pub const PATTERNS: [u32; {SYNDROMES:_}] = [",
+        "// The error pattern of each syndrome, in rows of 32, and the row that a syndrome's stands in. Printed by tools/patterns.py.",
+        "ghost use Prim.Native.Nat.{_+_, _*_, _/_, _<_};",
+        "ghost use Rattle.patterns.specs.Patterns.{ArePatterns};",
+        "",
     ]
-    lines += [f"    0x{pattern:06X}," for pattern in table]
-    lines += ["];"]
+    for n in range(SYNDROMES // ROW):
+        lines += source_row(table, n)
+    for quarter in range(QUARTERS):
+        lines += source_rows(quarter)
+    lines += [
+        f"pub(crate) fn row(s: u32) -> [u32; {ROW}]",
+        f"    requires {{ ⌜ s < {SYNDROMES} ⌝ }}",
+        f"    ensures {{ λ r. ⌜ ArePatterns (s / {ROW} * {ROW}) {ROW} r ⌝ }}",
+        "{",
+        f"    let row = s / {ROW} % {ROWS};",
+        f"    match s / {ROWS * ROW:_} % {QUARTERS} {{",
+    ]
+    lines += [f"        {quarter} => rows_{quarter}(row)," for quarter in range(QUARTERS - 1)]
+    lines += [f"        _ => rows_{QUARTERS - 1}(row),", "    }", "}"]
     return "\n".join(lines) + "\n"
 
 
@@ -93,10 +135,46 @@ def antt(table):
     return "\n".join(lines) + "\n"
 
 
+def rows_proof(quarter):
+    """The proof of a quarter's function: each arm is one line, by one law."""
+    first = quarter * ROWS * ROW
+    name = f"rows_{quarter}"
+    lines = [
+        f"-- `hard::table::{name}` meets its contract: each arm's row is that part of the table. Printed by tools/patterns.py.",
+        "-- Assumes nothing.",
+        "use Rattle.patterns.proofs.Table.{table}",
+        "use Rattle.hard.proofs.Rows.{picked, left-over}",
+        f"use Rattle.hard.proofs.table.{name}.Statement.{{statement}}",
+        f"use Rattle.hard.proofs.table.{name}.Tie as tie",
+        "",
+        f"pub {name.replace('_', '-')}-spec : {{M : Type 1}} → statement M",
+        "unfolding table",
+        f"{name.replace('_', '-')}-spec =",
+        "    tie.close",
+        "    (tie.spec",
+    ]
+    lines += [f"    (λ c. picked {first} {row} (c .match .keys{row + 1}) tt)" for row in range(ROWS - 1)]
+    lines += [f"    (λ c. picked {first} {ROWS - 1} (left-over {ROWS - 1} (c .match .rest) (c .before .pre)) tt))"]
+    return "\n".join(lines) + "\n"
+
+
 FILES = {
     "rt": ("crates/hard/src/table.rt", rt),
     "antt": ("crates/patterns/proofs/Table.antt", antt),
 }
+for _quarter in range(QUARTERS):
+    FILES[f"rows_{_quarter}"] = (
+        f"crates/hard/proofs/table/rows_{_quarter}/Proof.antt",
+        lambda table, quarter=_quarter: rows_proof(quarter),
+    )
+
+
+def write():
+    table = patterns()
+    for path, text in FILES.values():
+        (ROOT / path).parent.mkdir(parents=True, exist_ok=True)
+        (ROOT / path).write_text(text(table), encoding="utf-8")
+    return 0
 
 
 def check():
@@ -110,6 +188,8 @@ def check():
 def main(words):
     if words == ["--check"]:
         return check()
+    if words == ["--write"]:
+        return write()
     if len(words) == 1 and words[0] in FILES:
         sys.stdout.reconfigure(encoding="utf-8")
         sys.stdout.write(FILES[words[0]][1](patterns()))

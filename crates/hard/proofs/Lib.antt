@@ -1,3 +1,4 @@
+pub mod Rows
 pub mod Rules
 pub mod Calls
 pub mod Ascending

@@ -3,7 +3,7 @@
 ghost use mathlib.Core.Path.{_≡_};
 ghost use Prim.Native.Nat.{_<_};
 ghost use lib.ListN.{length};
-ghost use Rattle.patterns.specs.Patterns.{IsPattern, ArePatterns};
+ghost use Rattle.patterns.specs.Patterns.{IsPattern};
 ghost use Rattle.hard.specs.Answers.{correctAnswer, candidatesAnswer};
 ghost use Rattle.hard.specs.Calls.{Corrects, WritesCandidates};
 ghost use Rattle.hard.specs.Candidates.{Candidates, AtFour};
@@ -17,15 +17,25 @@ use golay::kinds::SyndromeAnswer;
 use golay::rows::SYNDROMES;
 use kinds::CandidatesAnswer;
 use kinds::CorrectAnswer;
-use table::PATTERNS;
 
-// The pattern of a syndrome. The table is lent: where a constant is used it is built anew, so each call builds it once.
-fn pattern(patterns: &[u32], s: u32) -> u32
-    requires { ⌜ ArePatterns (now patterns) ⌝ }
+// The pattern of a syndrome. Where the compiler can tell which entries of a constant are read, the constant becomes a table in the program's
+// text; an index that the program computes makes it write the constant to the stack at each use. So a loop, which the compiler lays out turn
+// by turn, passes all entries of the row and keeps the one.
+fn pattern(s: u32) -> u32
     requires { ⌜ s < 4096 ⌝ }
     ensures { λ r. ⌜ IsPattern s r ⌝ }
 {
-    patterns[s as usize]
+    let row = table::row(s);
+    let at = (s % 32) as usize;
+    let mut found: u32 = 0;
+    let mut i: usize = 0;
+    while i < 32 {
+        if i == at {
+            found = row[i];
+        }
+        i += 1;
+    }
+    found
 }
 
 // The codeword nearest to a word and its distance, 0 to 3. Refuses 4, then 7.
@@ -35,8 +45,7 @@ pub fn correct(word: u32) -> CorrectAnswer
     match golay::syndrome(word) {
         SyndromeAnswer::Refused(reason) => CorrectAnswer::Refused(reason),
         SyndromeAnswer::Accepted(s) => {
-            let patterns = PATTERNS;
-            let error = pattern(&patterns, s.0);
+            let error = pattern(s.0);
             let distance = golay::ones(error);
             if distance == 4 {
                 return CorrectAnswer::Refused(Refusal::DistanceFour);
@@ -49,8 +58,7 @@ pub fn correct(word: u32) -> CorrectAnswer
 // Writes the six codewords at distance four from a word of syndrome s. Each differs from the word by an error of four ones: its highest place,
 // and the pattern of what syndrome is left. Going down the places, the codeword found at one stands before all that follow if the word has a
 // one there, and after them if not: so the slots fill from both ends.
-fn fill(patterns: &[u32], word: u32, s: u32, slots: &mut [u32])
-    requires { ⌜ ArePatterns (now patterns) ⌝ }
+fn fill(word: u32, s: u32, slots: &mut [u32])
     requires { ⌜ AtFour word s ⌝ }
     requires { ⌜ length (now slots) ≡ 6 ⌝ }
     ensures { λ r. ⌜ Candidates word (now (slots .exit)) ⌝ }
@@ -61,7 +69,7 @@ fn fill(patterns: &[u32], word: u32, s: u32, slots: &mut [u32])
     while i > 0 {
         i -= 1;
         let place: u32 = 1 << i;
-        let rest = pattern(patterns, s ^ SYNDROMES[i as usize]);
+        let rest = pattern(s ^ SYNDROMES[i as usize]);
         if rest < place {
             let candidate = word ^ (place + rest);
             if (word >> i) % 2 == 1 {
@@ -85,11 +93,10 @@ pub fn candidates(word: u32, slots: &mut [u32]) -> CandidatesAnswer
     match golay::syndrome(word) {
         SyndromeAnswer::Refused(reason) => CandidatesAnswer::Refused(reason),
         SyndromeAnswer::Accepted(s) => {
-            let patterns = PATTERNS;
-            if golay::ones(pattern(&patterns, s.0)) != 4 {
+            if golay::ones(pattern(s.0)) != 4 {
                 return CandidatesAnswer::Refused(Refusal::NotDistanceFour);
             }
-            fill(&patterns, word, s.0, slots);
+            fill(word, s.0, slots);
             CandidatesAnswer::Accepted
         }
     }

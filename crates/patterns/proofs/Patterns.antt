@@ -4,12 +4,13 @@
 use mathlib.Core.Path.{_≡_, refl, sym, ap, _∙_, subst}
 use mathlib.Core.Logic.{⊎-elim}
 use mathlib.Core.Bool.{Bool, _&&_}
-use mathlib.Core.List.{map}
+use mathlib.Core.List.{List, map}
 use Prim.Native.Nat.{ℕ, _+_, _*_, _^_, _≤_, _<_}
-use native.Mathlib.Nat.{le-antisymm}
+use native.Mathlib.Nat.{zero-add, add-assoc, le-antisymm}
 use native.Mathlib.Omega.{arith}
 use lib.Dec.{T, leb, leb→le, ltb, ltb→lt, eqb, eqb→eq}
-use lib.ListN.{getD, List·getD-map}
+use lib.ListN.{getD, take, drop, length-drop, List·getD-map}
+use lib.Seq.{length-take-le, getD-take, getD-drop}
 use Rattle.binary.specs.Words.{ones, rowSum}
 use Rattle.binary.proofs.Tests.{and-left, and-right, every, at}
 use Rattle.code.specs.Code.{words, syndromeOf}
@@ -88,9 +89,17 @@ module _ (s : ℕ) (h : s < 2 ^ 12) where
     smallest = λ e g z. no-smaller (ones 24 x) x (ones 24 e) e (key-least e g z);
   }
 
-pub table-patterns : ArePatterns table
+pub table-patterns : ArePatterns 0 4096 table
 unfolding table
-table-patterns = record { size = refl; each = table-pattern }
+table-patterns = record { size = refl; each = λ s h. rw zero-add (table-pattern s h) }
+
+-- and so is each part of such a list
+pub part-patterns :
+    {first count : ℕ} {list : List ℕ} → ArePatterns first count list → (skip n : ℕ) → skip + n ≤ count → ArePatterns (first + skip) n (take n (drop skip list))
+part-patterns {first} {count} {list} t skip n h = record {
+  size = length-take-le n (drop skip list) (omega (arith, length-drop skip list, t .size));
+  each = λ k g. rw (getD-take n (drop skip list) k 0 g, getD-drop skip list k 0, add-assoc first skip k) (t .each (skip + k) (omega arith));
+}
 
 pub pattern-unique : {s x y : ℕ} → IsPattern s x → IsPattern s y → x ≡ y
 pattern-unique {s} {x} {y} p q =

@@ -1,7 +1,7 @@
 -- Document 01, "Hard correction": which error pattern the table holds for a syndrome.
 use mathlib.Core.Path.{_≡_}
 use mathlib.Core.List.{List}
-use Prim.Native.Nat.{ℕ, _≤_, _<_}
+use Prim.Native.Nat.{ℕ, _+_, _≤_, _<_}
 use lib.ListN.{length, getD}
 use Rattle.binary.specs.Words.{ones}
 use Rattle.code.specs.Code.{words, syndromeOf}
@@ -13,7 +13,7 @@ pub record IsPattern (s pattern : ℕ) : Type 0 where
   pub fewest : (e : ℕ) → e < words → syndromeOf e ≡ s → ones 24 pattern ≤ ones 24 e
   pub smallest : (e : ℕ) → e < words → syndromeOf e ≡ s → ones 24 e ≡ ones 24 pattern → pattern ≤ e
 
--- a table of them
-pub record ArePatterns (table : List ℕ) : Type 0 where
-  pub size : length table ≡ 4096
-  pub each : (s : ℕ) → s < 4096 → IsPattern s (getD table s 0)
+-- a list of them: those of so many syndromes from the first on
+pub record ArePatterns (first count : ℕ) (list : List ℕ) : Type 0 where
+  pub size : length list ≡ count
+  pub each : (k : ℕ) → k < count → IsPattern (first + k) (getD list k 0)

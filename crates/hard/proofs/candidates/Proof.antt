@@ -3,8 +3,6 @@
 use native.Mathlib.Omega.{arith}
 use denote.Ref.{now}
 use borrow.Author.Needs.{needs}
-use Rattle.patterns.proofs.Table.{table}
-use Rattle.patterns.proofs.Patterns.{table-patterns}
 use Rattle.hard.proofs.Calls.{syndrome-accepted, syndrome-refused, within-lt, found, at-four, writes-length, writes-above, writes-other, writes-four}
 use Rattle.hard.proofs.candidates.Statement.{statement}
 use Rattle.hard.proofs.candidates.Tie as tie
@@ -21,16 +19,12 @@ enum-known-reason c = search needs
 enum-known-s : tie.Need-enum-known-s
 enum-known-s c = search needs
 
-slice-aggregate-pattern : tie.Need-slice-aggregate-pattern
-slice-aggregate-pattern c = search needs
-
 pattern-requires : tie.Need-pattern-requires
-unfolding table
 pattern-requires c κs =
-    let matched = c .before .before in
+    let matched = c .before in
     let called = matched .before .before in
     let start = called .before .before .before in
-    (table-patterns, within-lt (syndrome-accepted (start .args .word) (called .syndrome .ensures) (matched .s .given .1)))
+    within-lt (syndrome-accepted (start .args .word) (called .syndrome .ensures) (matched .s .given .1))
 
 ones-requires : tie.Need-ones-requires
 ones-requires c κs = search needs
@@ -38,25 +32,21 @@ ones-requires c κs = search needs
 returns-2 : tie.Need-returns-2
 returns-2 c =
     let read = c .before .before in
-    let matched = read .before .before .before in
+    let matched = read .before .before in
     let called = matched .before .before in
     let start = called .before .before .before in
     let w = syndrome-accepted (start .args .word) (called .syndrome .ensures) (matched .s .given .1) in
     writes-other (now (start .args .slots)) (omega arith) (found w (read .pattern .ensures) (c .before .ones .ensures)) (omega arith)
 
-slice-aggregate-fill : tie.Need-slice-aggregate-fill
-slice-aggregate-fill c = search needs
-
 fill-requires : tie.Need-fill-requires
-unfolding table
 fill-requires c κs =
-    let counted = c .before .before .before in
+    let counted = c .before .before in
     let read = counted .before in
-    let matched = read .before .before .before in
+    let matched = read .before .before in
     let called = matched .before .before in
     let start = called .before .before .before in
     let w = syndrome-accepted (start .args .word) (called .syndrome .ensures) (matched .s .given .1) in
-    (table-patterns, (at-four w (read .pattern .ensures) (counted .ones .ensures) (omega arith), omega arith))
+    (at-four w (read .pattern .ensures) (counted .ones .ensures) (omega arith), omega arith)
 
 returns-3 : tie.Need-returns-3
 returns-3 c =
@@ -71,9 +61,9 @@ same-length c = search needs
 returns-4 : tie.Need-returns-4
 returns-4 c =
     let filled = c .before .before in
-    let four = filled .before .before .before in
+    let four = filled .before .before in
     let read = four .before .before in
-    let matched = read .before .before .before in
+    let matched = read .before .before in
     let called = matched .before .before in
     let start = called .before .before .before in
     let w = syndrome-accepted (start .args .word) (called .syndrome .ensures) (matched .s .given .1) in
@@ -88,11 +78,9 @@ candidates-spec =
     syndrome-requires
     enum-known-reason
     enum-known-s
-    slice-aggregate-pattern
     pattern-requires
     ones-requires
     returns-2
-    slice-aggregate-fill
     fill-requires
     returns-3
     same-length

@@ -2,8 +2,6 @@
 -- Assumes nothing.
 use native.Mathlib.Omega.{arith}
 use borrow.Author.Needs.{needs}
-use Rattle.patterns.proofs.Table.{table}
-use Rattle.patterns.proofs.Patterns.{table-patterns}
 use Rattle.hard.proofs.Calls.{syndrome-accepted, syndrome-refused, within-lt, found, corrects-above, corrects-four, corrects-nearer}
 use Rattle.hard.proofs.correct.Statement.{statement}
 use Rattle.hard.proofs.correct.Tie as tie
@@ -17,15 +15,11 @@ enum-known-reason c = search needs
 enum-known-s : tie.Need-enum-known-s
 enum-known-s c = search needs
 
-slice-aggregate-pattern : tie.Need-slice-aggregate-pattern
-slice-aggregate-pattern c = search needs
-
 pattern-requires : tie.Need-pattern-requires
-unfolding table
 pattern-requires c κs =
-    let matched = c .before .before in
+    let matched = c .before in
     let called = matched .before .before in
-    (table-patterns, within-lt (syndrome-accepted (called .before .args .word) (called .syndrome .ensures) (matched .s .given .1)))
+    within-lt (syndrome-accepted (called .before .args .word) (called .syndrome .ensures) (matched .s .given .1))
 
 ones-requires : tie.Need-ones-requires
 ones-requires c κs = search needs
@@ -33,7 +27,7 @@ ones-requires c κs = search needs
 returns : tie.Need-returns
 returns c =
     let read = c .before .before in
-    let matched = read .before .before .before in
+    let matched = read .before .before in
     let called = matched .before .before in
     let w = syndrome-accepted (called .before .args .word) (called .syndrome .ensures) (matched .s .given .1) in
     corrects-four (found w (read .pattern .ensures) (c .before .ones .ensures)) (omega arith)
@@ -46,7 +40,7 @@ returns-2 c =
 returns-3 : tie.Need-returns-3
 returns-3 c =
     let read = c .before .before in
-    let matched = read .before .before .before in
+    let matched = read .before .before in
     let called = matched .before .before in
     let w = syndrome-accepted (called .before .args .word) (called .syndrome .ensures) (matched .s .given .1) in
     corrects-nearer (found w (read .pattern .ensures) (c .before .ones .ensures)) (omega arith)
@@ -58,7 +52,6 @@ correct-spec =
     syndrome-requires
     enum-known-reason
     enum-known-s
-    slice-aggregate-pattern
     pattern-requires
     ones-requires
     returns

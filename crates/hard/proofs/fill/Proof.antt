@@ -13,15 +13,15 @@ use Rattle.hard.proofs.fill.Statement.{statement}
 use Rattle.hard.proofs.fill.Tie as tie
 
 abbrev Inv-loop : tie.InvT-loop
-Inv-loop patterns word s slots₀ first₀ end₀ i₀ slots first end i = Filled word s slots first end i
+Inv-loop word s slots₀ first₀ end₀ i₀ slots first end i = Filled word s slots first end i
 
 abbrev μ-loop : tie.MeasureT-loop
-μ-loop patterns word s slots₀ first₀ end₀ i₀ slots first end i = i
+μ-loop word s slots₀ first₀ end₀ i₀ slots first end i = i
 
 loop-holds : tie.Need-loop-holds Inv-loop μ-loop
 loop-holds c =
-    let start = c .before .before in
-    begun (start .args .word) (start .args .s) (now (start .args .slots)) (start .pre .1 .0) (start .pre .1 .1)
+    let start = c .before in
+    begun (start .args .word) (start .args .s) (now (start .args .slots)) (start .pre .0) (start .pre .1)
 
 sub-i : tie.Need-sub-i Inv-loop μ-loop
 sub-i c = search needs
@@ -40,15 +40,15 @@ array-read-pattern c = search needs
 
 pattern-requires : tie.Need-pattern-requires Inv-loop μ-loop
 pattern-requires c κs =
-    let start = c .before .before .before .before in
+    let start = c .before .before .before in
     let s = start .args .s in
     let n = c .before .loop .i - 1 in
-    (start .pre .0, xor-lt 12 s _ (at-four-lt (start .args .word) s (start .pre .1 .0)) (row-lt n (search needs)))
+    xor-lt 12 s _ (at-four-lt (start .args .word) s (start .pre .0)) (row-lt n (search needs))
 
 add-candidate : tie.Need-add-candidate Inv-loop μ-loop
 add-candidate c =
     let l = c .before .before .before in
-    record { fits = turn-fits (l .before .before .before .pre .1 .0) (l .loop .inv) (omega arith) (c .before .pattern .ensures) (c .if1 .taken) }
+    record { fits = turn-fits (l .before .before .pre .0) (l .loop .inv) (omega arith) (c .before .pattern .ensures) (c .if1 .taken) }
 
 shr-if2 : tie.Need-shr-if2 Inv-loop μ-loop
 shr-if2 c = search needs
@@ -59,7 +59,7 @@ mul-slots c = search needs
 slice-write-slots : tie.Need-slice-write-slots Inv-loop μ-loop
 slice-write-slots c =
     let l = c .before .before .before .before in
-    omega (arith, turn-room (l .before .before .before .pre .1 .0) (l .loop .inv) (omega arith) (c .before .before .pattern .ensures) (c .before .if1 .taken))
+    omega (arith, turn-room (l .before .before .pre .0) (l .loop .inv) (omega arith) (c .before .before .pattern .ensures) (c .before .if1 .taken))
 
 add-first : tie.Need-add-first Inv-loop μ-loop
 add-first c = search needs
@@ -70,12 +70,12 @@ loop-less c = search needs
 loop-again : tie.Need-loop-again Inv-loop μ-loop
 loop-again c =
     let l = c .before .before .before .before in
-    turn-front (l .before .before .before .pre .1 .0) (l .loop .inv) (omega arith) (c .before .before .pattern .ensures) (c .before .if1 .taken) (c .if2 .taken)
+    turn-front (l .before .before .pre .0) (l .loop .inv) (omega arith) (c .before .before .pattern .ensures) (c .before .if1 .taken) (c .if2 .taken)
 
 sub-end : tie.Need-sub-end Inv-loop μ-loop
 sub-end c =
     let l = c .before .before .before .before in
-    omega (arith, turn-room (l .before .before .before .pre .1 .0) (l .loop .inv) (omega arith) (c .before .before .pattern .ensures) (c .before .if1 .taken))
+    omega (arith, turn-room (l .before .before .pre .0) (l .loop .inv) (omega arith) (c .before .before .pattern .ensures) (c .before .if1 .taken))
 
 mul-slots-2 : tie.Need-mul-slots-2 Inv-loop μ-loop
 mul-slots-2 c = search needs
@@ -83,7 +83,7 @@ mul-slots-2 c = search needs
 slice-write-slots-2 : tie.Need-slice-write-slots-2 Inv-loop μ-loop
 slice-write-slots-2 c =
     let l = c .before .before .before .before in
-    omega (arith, turn-room (l .before .before .before .pre .1 .0) (l .loop .inv) (omega arith) (c .before .before .pattern .ensures) (c .before .if1 .taken))
+    omega (arith, turn-room (l .before .before .pre .0) (l .loop .inv) (omega arith) (c .before .before .pattern .ensures) (c .before .if1 .taken))
 
 loop-less-2 : tie.Need-loop-less-2 Inv-loop μ-loop
 loop-less-2 c = search needs
@@ -91,7 +91,7 @@ loop-less-2 c = search needs
 loop-again-2 : tie.Need-loop-again-2 Inv-loop μ-loop
 loop-again-2 c =
     let l = c .before .before .before .before in
-    turn-back (l .before .before .before .pre .1 .0) (l .loop .inv) (omega arith) (c .before .before .pattern .ensures) (c .before .if1 .taken) (c .if2 .left)
+    turn-back (l .before .before .pre .0) (l .loop .inv) (omega arith) (c .before .before .pattern .ensures) (c .before .if1 .taken) (c .if2 .left)
 
 loop-less-3 : tie.Need-loop-less-3 Inv-loop μ-loop
 loop-less-3 c = search needs
@@ -99,13 +99,13 @@ loop-less-3 c = search needs
 loop-again-3 : tie.Need-loop-again-3 Inv-loop μ-loop
 loop-again-3 c =
     let l = c .before .before .before in
-    turn-skip (l .before .before .before .pre .1 .0) (l .loop .inv) (omega arith) (c .before .pattern .ensures) (c .if1 .left)
+    turn-skip (l .before .before .pre .0) (l .loop .inv) (omega arith) (c .before .pattern .ensures) (c .if1 .left)
 
 same-length : tie.Need-same-length Inv-loop μ-loop
-same-length c = c .before .loop .inv .size ∙ sym (c .before .before .before .before .pre .1 .1)
+same-length c = c .before .loop .inv .size ∙ sym (c .before .before .before .pre .1)
 
 returns : tie.Need-returns Inv-loop μ-loop
-returns c = done (c .before .loop .inv) (omega arith) (c .before .before .before .before .pre .1 .0)
+returns c = done (c .before .loop .inv) (omega arith) (c .before .before .before .pre .0)
 
 pub fill-spec : {M : Type 1} → statement M
 fill-spec =

@@ -1,17 +1,73 @@
--- `hard::pattern` meets its contract: the table that it is lent holds the pattern.
+-- `hard::pattern` meets its contract. The invariant: once the loop has passed the entry, it holds it.
 -- Assumes nothing.
+use mathlib.Core.Path.{_≡_, _∙_, sym, ap, subst}
+use mathlib.Core.Logic.{⊎-elim}
+use Prim.Native.Nat.{ℕ, _-_, _%_, _≤_, _<_}
+use native.Mathlib.Nat.{div-add-mod'}
+use native.Mathlib.Omega.{arith}
+use lib.ListN.{getD}
 use borrow.Author.Needs.{needs}
+use Rattle.patterns.specs.Patterns.{IsPattern}
 use Rattle.hard.proofs.pattern.Statement.{statement}
 use Rattle.hard.proofs.pattern.Tie as tie
+use Rattle.hard.proofs.pattern.Reads as reads
+use Rattle.hard.proofs.pattern.Lts as lts
+use Rattle.hard.proofs.table.row.Reads as row-reads
 
-mul-result : tie.Need-mul-result
-mul-result c = search needs
+abbrev Inv-loop : tie.InvT-loop
+Inv-loop s row at found₀ i₀ found i = (i ≤ 32) × (at < i → found ≡ getD row at 0)
 
-shared-slice-read-result : tie.Need-shared-slice-read-result
-shared-slice-read-result c = search needs
+abbrev μ-loop : tie.MeasureT-loop
+μ-loop s row at found₀ i₀ found i = 32 - i
 
-returns : tie.Need-returns
-returns c = c .before .pre .0 .each (c .before .args .s) (c .before .pre .1)
+row-requires : tie.Need-row-requires Inv-loop μ-loop
+row-requires c κs = search needs
+
+cast-at : tie.Need-cast-at Inv-loop μ-loop
+cast-at c = search needs
+
+loop-holds : tie.Need-loop-holds Inv-loop μ-loop
+loop-holds c = (search needs, λ h. let e : ⊥ = omega arith in absurd e)
+
+mul-found : tie.Need-mul-found Inv-loop μ-loop
+mul-found c = search needs
+
+array-read-found : tie.Need-array-read-found Inv-loop μ-loop
+array-read-found c = search needs
+
+add-i : tie.Need-add-i Inv-loop μ-loop
+add-i c = search needs
+
+loop-less : tie.Need-loop-less Inv-loop μ-loop
+loop-less c = search needs
+
+loop-again : tie.Need-loop-again Inv-loop μ-loop
+loop-again c =
+    let l = c .before .before .loop in
+    let row = c .before .before .before .row .result in
+    (search needs, λ h. ⊎-elim (λ w. w .1 ∙ ap (λ (k : ℕ). getD row k 0) (w .0 .taken)) (λ w. w .1 ∙ l .inv .1 (omega arith)) (c .if1 .came))
+
+returns : tie.Need-returns Inv-loop μ-loop
+returns c =
+    let start = c .before .before .before in
+    let s = start .args .s in
+    let l = c .before .loop in
+    let e : l .found ≡ getD (c .before .before .row .result) (s % 32) 0 = l .inv .1 (omega arith) in
+    subst (λ (x : ℕ). IsPattern s x) (sym e)
+    (subst (λ (n : ℕ). IsPattern n (getD (c .before .before .row .result) (s % 32) 0)) (div-add-mod' s 32) (c .before .before .row .ensures .each (s % 32) (omega arith)))
 
 pub pattern-spec : {M : Type 1} → statement M
-pattern-spec = tie.close (tie.spec mul-result shared-slice-read-result returns)
+pattern-spec =
+    tie.close
+    (tie.spec
+    Inv-loop
+    μ-loop
+    row-requires
+    cast-at
+    loop-holds
+    mul-found
+    array-read-found
+    add-i
+    loop-less
+    loop-again
+    returns)

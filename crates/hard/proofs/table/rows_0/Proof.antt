@@ -1,0 +1,44 @@
+-- `hard::table::rows_0` meets its contract: each arm's row is that part of the table. Printed by tools/patterns.py.
+-- Assumes nothing.
+use Rattle.patterns.proofs.Table.{table}
+use Rattle.hard.proofs.Rows.{picked, left-over}
+use Rattle.hard.proofs.table.rows_0.Statement.{statement}
+use Rattle.hard.proofs.table.rows_0.Tie as tie
+
+pub rows-0-spec : {M : Type 1} → statement M
+unfolding table
+rows-0-spec =
+    tie.close
+    (tie.spec
+    (λ c. picked 0 0 (c .match .keys1) tt)
+    (λ c. picked 0 1 (c .match .keys2) tt)
+    (λ c. picked 0 2 (c .match .keys3) tt)
+    (λ c. picked 0 3 (c .match .keys4) tt)
+    (λ c. picked 0 4 (c .match .keys5) tt)
+    (λ c. picked 0 5 (c .match .keys6) tt)
+    (λ c. picked 0 6 (c .match .keys7) tt)
+    (λ c. picked 0 7 (c .match .keys8) tt)
+    (λ c. picked 0 8 (c .match .keys9) tt)
+    (λ c. picked 0 9 (c .match .keys10) tt)
+    (λ c. picked 0 10 (c .match .keys11) tt)
+    (λ c. picked 0 11 (c .match .keys12) tt)
+    (λ c. picked 0 12 (c .match .keys13) tt)
+    (λ c. picked 0 13 (c .match .keys14) tt)
+    (λ c. picked 0 14 (c .match .keys15) tt)
+    (λ c. picked 0 15 (c .match .keys16) tt)
+    (λ c. picked 0 16 (c .match .keys17) tt)
+    (λ c. picked 0 17 (c .match .keys18) tt)
+    (λ c. picked 0 18 (c .match .keys19) tt)
+    (λ c. picked 0 19 (c .match .keys20) tt)
+    (λ c. picked 0 20 (c .match .keys21) tt)
+    (λ c. picked 0 21 (c .match .keys22) tt)
+    (λ c. picked 0 22 (c .match .keys23) tt)
+    (λ c. picked 0 23 (c .match .keys24) tt)
+    (λ c. picked 0 24 (c .match .keys25) tt)
+    (λ c. picked 0 25 (c .match .keys26) tt)
+    (λ c. picked 0 26 (c .match .keys27) tt)
+    (λ c. picked 0 27 (c .match .keys28) tt)
+    (λ c. picked 0 28 (c .match .keys29) tt)
+    (λ c. picked 0 29 (c .match .keys30) tt)
+    (λ c. picked 0 30 (c .match .keys31) tt)
+    (λ c. picked 0 31 (left-over 31 (c .match .rest) (c .before .pre)) tt))
