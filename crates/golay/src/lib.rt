@@ -1,5 +1,6 @@
 // Messages, codewords, syndromes and codeword bytes. Each call answers for every input, and its promise decides the whole answer.
 ghost use mathlib.Core.Path.{_≡_};
+ghost use mathlib.Core.List.{[], _∷_};
 ghost use Prim.Native.Nat.{_<_};
 ghost use lib.ListN.{length};
 ghost use Rattle.binary.specs.Words.{rowSum};
@@ -46,11 +47,49 @@ fn row_sum(rows: &[u32], word: u32) -> u32
     sum
 }
 
+// The exclusive or of the rows at the ones of a column, a for its lowest bit.
+fn four_rows(a: u32, b: u32, c: u32, d: u32, column: u32) -> u32
+    ensures { λ r. ⌜ r ≡ rowSum (a ∷ b ∷ c ∷ d ∷ []) column ⌝ }
+{
+    (column % 2 * a)
+        ^ ((column / 2 % 2 * b) ^ ((column / 2 / 2 % 2 * c) ^ (column / 2 / 2 / 2 % 2 * d)))
+}
+
+// The same, found among those of all sixteen columns. The compiler lays the loop out turn by turn; where it knows the rows, each turn's sum is
+// then a number, and the sixteen numbers become a table in the program's text.
+fn column_sum(a: u32, b: u32, c: u32, d: u32, column: u32) -> u32
+    requires { ⌜ column < 16 ⌝ }
+    ensures { λ r. ⌜ r ≡ rowSum (a ∷ b ∷ c ∷ d ∷ []) column ⌝ }
+{
+    let mut found: u32 = 0;
+    let mut i: u32 = 0;
+    while i < 16 {
+        if i == column {
+            found = four_rows(a, b, c, d, i);
+        }
+        i += 1;
+    }
+    found
+}
+
+// The sum of the syndromes of the six columns, the last column first.
 fn syndrome_of(word: u32) -> u32
     requires { ⌜ word < words ⌝ }
     ensures { λ r. ⌜ r ≡ syndromeOf word ⌝ }
 {
-    row_sum(&SYNDROMES, word)
+    let rows = SYNDROMES;
+    column_sum(rows[0], rows[1], rows[2], rows[3], word % 16)
+        ^ column_sum(rows[4], rows[5], rows[6], rows[7], word / 16 % 16)
+        ^ column_sum(rows[8], rows[9], rows[10], rows[11], word / 256 % 16)
+        ^ column_sum(rows[12], rows[13], rows[14], rows[15], word / 4_096 % 16)
+        ^ column_sum(rows[16], rows[17], rows[18], rows[19], word / 65_536 % 16)
+        ^ column_sum(
+            rows[20],
+            rows[21],
+            rows[22],
+            rows[23],
+            word / 1_048_576 % 16,
+        )
 }
 
 fn is_codeword(word: u32) -> bool

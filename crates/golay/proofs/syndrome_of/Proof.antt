@@ -1,21 +1,90 @@
--- `golay::syndrome_of` meets its contract: the rows are those of the syndrome.
+-- `golay::syndrome_of` meets its contract: the sum over the columns is additive, as the syndrome is, and agrees with it at each position.
 -- Assumes nothing.
-use mathlib.Core.Path.{_∙_, sym}
+use mathlib.Core.Path.{_≡_, ap₂, _∙_, sym}
+use Prim.Native.Nat.{ℕ, zero, suc, _*_, _/_, _%_, _^_, _<_}
+use lib.Bits.{bitXor, xor-shr, xor-mod}
+use lib.ListN.{take, drop}
 use borrow.Author.Needs.{needs}
-use Rattle.code.proofs.Syndromes.{syndrome-rows}
+use Rattle.binary.specs.Words.{rowSum}
+use Rattle.binary.proofs.Linear.{Additive, additive-after, additive-sum, rowSum-add, agree}
+use Rattle.code.specs.Code.{words, syndromeOf}
+use Rattle.code.proofs.Syndromes.{syndromeRows, syndrome-add}
 use Rattle.golay.proofs.syndrome_of.Statement.{statement}
 use Rattle.golay.proofs.syndrome_of.Tie as tie
 
-slice-aggregate-row-sum : tie.Need-slice-aggregate-row-sum
-slice-aggregate-row-sum c = search needs
+-- the syndrome of the column whose lowest position is worth 2 ^ k; and of the last column and the j before it
+abbrev part : ℕ → ℕ → ℕ
+part k column = rowSum (take 4 (drop k syndromeRows)) (column % 2 ^ 4)
 
-row-sum-requires : tie.Need-row-sum-requires
-row-sum-requires c κs = search needs
+abbrev parts : ℕ → ℕ → ℕ
+parts zero word = part 0 word
+parts (suc j) word = bitXor (parts j word) (part (4 * suc j) (word / 2 ^ (4 * suc j)))
+
+part-add : (k : ℕ) → Additive (part k)
+part-add k = additive-after (rowSum (take 4 (drop k syndromeRows))) (λ x. x % 2 ^ 4) (rowSum-add (take 4 (drop k syndromeRows))) (λ a b. xor-mod a b 4)
+
+parts-add : (j : ℕ) → Additive (parts j)
+parts-add zero = part-add 0
+parts-add (suc j) =
+    additive-sum (parts j) (λ w. part (4 * suc j) (w / 2 ^ (4 * suc j))) (parts-add j)
+    (additive-after (part (4 * suc j)) (λ w. w / 2 ^ (4 * suc j)) (part-add (4 * suc j)) (λ a b. xor-shr a b (4 * suc j)))
+
+syndrome-parts : (word : ℕ) → word < words → syndromeOf word ≡ parts 5 word
+unfolding syndromeOf
+syndrome-parts = agree syndromeOf (parts 5) syndrome-add (parts-add 5) 24 tt
 
 returns : tie.Need-returns
 returns c =
-    let start = c .before .before in
-    c .row-sum .ensures ∙ sym (syndrome-rows (start .args .word) (start .pre))
+    let c5 = c .before in
+    let c4 = c5 .before in
+    let c3 = c4 .before in
+    let c2 = c3 .before in
+    let c1 = c2 .before in
+    let start = c1 .before in
+    ap₂ bitXor
+    (ap₂ bitXor
+    (ap₂ bitXor
+    (ap₂ bitXor
+    (ap₂ bitXor (c1 .column-sum .ensures) (c2 .column-sum2 .ensures))
+    (c3 .column-sum3 .ensures))
+    (c4 .column-sum4 .ensures))
+    (c5 .column-sum5 .ensures))
+    (c .column-sum6 .ensures)
+    ∙ sym (syndrome-parts (start .args .word) (start .pre))
 
+-- what each of the six calls reads and asks
 pub syndrome-of-spec : {M : Type 1} → statement M
-syndrome-of-spec = tie.close (tie.spec slice-aggregate-row-sum row-sum-requires returns)
+syndrome-of-spec =
+    tie.close
+    (tie.spec
+    (λ c. search needs)
+    (λ c. search needs)
+    (λ c. search needs)
+    (λ c. search needs)
+    (λ c κs. search needs)
+    (λ c. search needs)
+    (λ c. search needs)
+    (λ c. search needs)
+    (λ c. search needs)
+    (λ c κs. search needs)
+    (λ c. search needs)
+    (λ c. search needs)
+    (λ c. search needs)
+    (λ c. search needs)
+    (λ c κs. search needs)
+    (λ c. search needs)
+    (λ c. search needs)
+    (λ c. search needs)
+    (λ c. search needs)
+    (λ c κs. search needs)
+    (λ c. search needs)
+    (λ c. search needs)
+    (λ c. search needs)
+    (λ c. search needs)
+    (λ c κs. search needs)
+    (λ c. search needs)
+    (λ c. search needs)
+    (λ c. search needs)
+    (λ c. search needs)
+    (λ c κs. search needs)
+    returns)

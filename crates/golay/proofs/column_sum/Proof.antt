@@ -1,0 +1,46 @@
+-- `golay::column_sum` meets its contract. The invariant: once the loop has passed the column, it holds its sum.
+-- Assumes nothing.
+use mathlib.Core.Path.{_≡_, ap, _∙_}
+use mathlib.Core.Logic.{⊎-elim}
+use mathlib.Core.List.{[], _∷_}
+use Prim.Native.Nat.{ℕ, _-_, _≤_, _<_}
+use native.Mathlib.Omega.{arith}
+use borrow.Author.Needs.{needs}
+use Rattle.binary.specs.Words.{rowSum}
+use Rattle.golay.proofs.column_sum.Statement.{statement}
+use Rattle.golay.proofs.column_sum.Tie as tie
+use Rattle.golay.proofs.column_sum.Reads as reads
+use Rattle.golay.proofs.column_sum.Lts as lts
+use Rattle.golay.proofs.four_rows.Reads as four-rows-reads
+
+abbrev Inv-loop : tie.InvT-loop
+Inv-loop a b c d column found₀ i₀ found i = (i ≤ 16) × (column < i → found ≡ rowSum (a ∷ b ∷ c ∷ d ∷ []) column)
+
+abbrev μ-loop : tie.MeasureT-loop
+μ-loop a b c d column found₀ i₀ found i = 16 - i
+
+loop-holds : tie.Need-loop-holds Inv-loop μ-loop
+loop-holds c = (search needs, λ h. let e : ⊥ = omega arith in absurd e)
+
+four-rows-requires : tie.Need-four-rows-requires Inv-loop μ-loop
+four-rows-requires c κs = search needs
+
+add-i : tie.Need-add-i Inv-loop μ-loop
+add-i c = search needs
+
+loop-less : tie.Need-loop-less Inv-loop μ-loop
+loop-less c = search needs
+
+loop-again : tie.Need-loop-again Inv-loop μ-loop
+loop-again c =
+    let args = c .before .before .before .args in
+    let sum = rowSum (args .a ∷ args .b ∷ args .c ∷ args .d ∷ []) in
+    (search needs, λ h. ⊎-elim (λ w. w .2 ∙ w .1 .ensures ∙ ap sum (w .0 .taken)) (λ w. w .1 ∙ c .before .before .loop .inv .1 (omega arith)) (c .if1 .came))
+
+returns : tie.Need-returns Inv-loop μ-loop
+returns c = c .before .loop .inv .1 (omega arith)
+
+pub column-sum-spec : {M : Type 1} → statement M
+column-sum-spec =
+    tie.close
+    (tie.spec Inv-loop μ-loop loop-holds four-rows-requires add-i loop-less loop-again returns)
