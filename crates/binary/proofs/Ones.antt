@@ -19,7 +19,7 @@ unfolding ones
 ones-le zero w = omega arith
 ones-le (suc n) w = omega (arith, ones-le n (w / 2))
 
-half-lt : (n w : ℕ) → w < 2 ^ suc n → w / 2 < 2 ^ n
+pub half-lt : (n w : ℕ) → w < 2 ^ suc n → w / 2 < 2 ^ n
 half-lt n w h = let b : w < 2 ^ n * 2 = rw pow-suc at h in omega arith
 
 pub ones-beyond : (n k w : ℕ) → w < 2 ^ n → n ≤ k → ones k w ≡ ones n w

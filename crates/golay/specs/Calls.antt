@@ -17,7 +17,8 @@ messageAbove m = leb messages m
 abbrev pub wordAbove : ℕ → Bool
 wordAbove word = leb words word
 
-abbrev pub wrongLength : ℕ → List ℕ → Bool
+-- "a reading isn't 24 long, a codeword buffer isn't 3 bytes, or the slots aren't six"
+abbrev pub wrongLength : {A : Type 0} → ℕ → List A → Bool
 wrongLength n lent = not (eqb (length lent) n)
 
 unfoldable pub encodeRule : ℕ → Answer ℕ

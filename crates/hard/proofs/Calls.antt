@@ -21,7 +21,7 @@ use Rattle.golay.specs.Answers.{accepted, refused, syndromeAnswer}
 use Rattle.golay.specs.Calls.{syndromeRule}
 use Rattle.golay.proofs.Rules.{syndrome-above, syndrome-within}
 use Rattle.patterns.specs.Patterns.{IsPattern}
-use Rattle.patterns.proofs.Words.{le-or-lt}
+use Rattle.binary.proofs.Places.{le-or-lt}
 use Rattle.patterns.proofs.Table.{table}
 use Rattle.patterns.proofs.Patterns.{table-pattern}
 use Rattle.hard.specs.Candidates.{Candidates, AtFour}

@@ -8,7 +8,7 @@ use native.Mathlib.Omega.{arith}
 use lib.Dec.{T, leb, leb→le}
 use lib.ListN.{take, drop}
 use Rattle.patterns.specs.Patterns.{ArePatterns}
-use Rattle.patterns.proofs.Words.{le-or-lt}
+use Rattle.binary.proofs.Places.{le-or-lt}
 use Rattle.patterns.proofs.Table.{table}
 use Rattle.patterns.proofs.Patterns.{table-patterns, part-patterns}
 

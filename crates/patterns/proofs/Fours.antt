@@ -18,7 +18,7 @@ use Rattle.code.proofs.Syndromes.{syndrome-add, syndrome-lt, syndromeRows}
 use Rattle.patterns.specs.Patterns.{IsPattern}
 use Rattle.patterns.proofs.Table.{table}
 use Rattle.patterns.proofs.Lookup.{Tree, build, find, find-build}
-use Rattle.patterns.proofs.Words.{ones-positive, Top, top, ones-top}
+use Rattle.binary.proofs.Places.{ones-positive, Top, top, ones-top}
 use Rattle.patterns.proofs.Patterns.{table-pattern, pattern-unique}
 use Rattle.patterns.proofs.Nearest.{pattern-itself}
 

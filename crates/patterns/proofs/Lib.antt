@@ -1,5 +1,4 @@
 pub mod Table
-pub mod Words
 pub mod Lookup
 pub mod Scan
 pub mod Patterns

@@ -13,7 +13,7 @@ use Rattle.code.proofs.Syndromes.{syndrome-add, codeword-zero, zero-codeword}
 use Rattle.code.proofs.Distances.{codeword-ones}
 use Rattle.patterns.specs.Patterns.{IsPattern}
 use Rattle.patterns.specs.Nearest.{Nearest}
-use Rattle.patterns.proofs.Words.{ones-xor}
+use Rattle.binary.proofs.Places.{ones-xor}
 
 light-codeword : (c : ℕ) → c < words → T (isCodeword c) → ones 24 c < 8 → c ≡ 0
 light-codeword zero h t l = refl

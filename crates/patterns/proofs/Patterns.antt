@@ -17,7 +17,7 @@ use Rattle.code.specs.Code.{words, syndromeOf}
 use Rattle.code.proofs.Syndromes.{syndromeRows, syndrome-rows}
 use Rattle.patterns.specs.Patterns.{IsPattern, ArePatterns}
 use Rattle.patterns.proofs.Table.{table}
-use Rattle.patterns.proofs.Words.{le-or-lt}
+use Rattle.binary.proofs.Places.{le-or-lt}
 use Rattle.patterns.proofs.Lookup.{Tree, build, find, find-build}
 use Rattle.patterns.proofs.Scan.{keyOf, scan, scanned}
 

@@ -15,8 +15,8 @@ use Rattle.binary.specs.Words.{ones, rowSum}
 use Rattle.binary.proofs.Tests.{and-left, and-right}
 use Rattle.binary.proofs.Xor.{two-cases, bit-lt, xor-assoc}
 use Rattle.binary.proofs.Linear.{additive-zero, rowSum-add}
-use Rattle.binary.proofs.Ones.{ones-zero}
-use Rattle.patterns.proofs.Words.{half-lt, no-ones}
+use Rattle.binary.proofs.Ones.{half-lt, ones-zero}
+use Rattle.binary.proofs.Places.{no-ones}
 
 abbrev pub keyOf : ℕ → ℕ → ℕ → ℕ
 keyOf unit n w = w + ones n w * unit

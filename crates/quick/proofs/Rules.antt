@@ -13,7 +13,8 @@ use Rattle.golay.specs.Answers.{Answer, accepted, refused}
 use Rattle.golay.proofs.Decided.{said-once, refuse-once, reason, reason-number}
 use Rattle.hard.specs.Answers.{Correction}
 use Rattle.hard.proofs.Decided.{correct-decided}
-use Rattle.reading.specs.Checks.{mostNegative, wrongLength}
+use Rattle.golay.specs.Calls.{wrongLength}
+use Rattle.reading.specs.Checks.{mostNegative}
 use Rattle.quick.specs.declared.kinds.QuickAnswer.{QuickAnswer}
 use Rattle.quick.specs.declared.kinds.QuickAnswer.the-variants as quick
 use Rattle.quick.specs.Quick.{quickAnswer, signWord, Cheapest, TwoCheapest, Chosen, alone, shared, Follows, Decides, QuickRule}
@@ -81,4 +82,4 @@ pub quick-decided : (xs : List ℤ) (x y : QuickAnswer) → QuickRule xs (quickA
 unfolding QuickRule
 quick-decided xs x y p q =
     said-once quickAnswer again back x y
-    (refuse-once _ (wrongLength xs) (refuse-once _ (mostNegative xs) (λ a b s t. decides-one s t)) (quickAnswer x) (quickAnswer y) p q) refl
+    (refuse-once _ (wrongLength 24 xs) (refuse-once _ (mostNegative xs) (λ a b s t. decides-one s t)) (quickAnswer x) (quickAnswer y) p q) refl

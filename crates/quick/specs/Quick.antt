@@ -14,7 +14,8 @@ use Rattle.golay.specs.Answers.{Answer, accepted, refused, Refuse}
 use Rattle.hard.specs.Answers.{Correction}
 use Rattle.hard.specs.Candidates.{Candidate}
 use Rattle.hard.specs.Calls.{Corrects}
-use Rattle.reading.specs.Checks.{wrongLength, mostNegative}
+use Rattle.golay.specs.Calls.{wrongLength}
+use Rattle.reading.specs.Checks.{mostNegative}
 use Rattle.quick.specs.declared.kinds.QuickAnswer.{QuickAnswer}
 use Rattle.quick.specs.declared.kinds.QuickAnswer.the-variants as quick
 
@@ -70,4 +71,4 @@ pub record Decides (xs : List ℤ) (answer : Answer ℕ) : Type 0 where
   pub follows : Follows (signWord xs) xs correction answer
 
 unfoldable pub QuickRule : List ℤ → Answer ℕ → Type 0
-QuickRule xs = Refuse WrongLength (wrongLength xs) (Refuse MostNegative (mostNegative xs) (Decides xs))
+QuickRule xs = Refuse WrongLength (wrongLength 24 xs) (Refuse MostNegative (mostNegative xs) (Decides xs))

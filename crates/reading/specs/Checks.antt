@@ -1,15 +1,10 @@
 -- Document 01, "Confidences and the soft answer": which readings are refused before anything is added.
 use mathlib.Core.Path.{_≡_}
-use mathlib.Core.Bool.{Bool, false, not, _||_}
+use mathlib.Core.Bool.{Bool, false, _||_}
 use mathlib.Core.List.{List, [], _∷_}
 use lib.Dec.{eqb}
 use lib.IntN.{ℤ, pos, negsuc}
-use lib.ListN.{length}
 use Rattle.contest.specs.Readings.{InRange}
-
--- "a reading isn't 24 long"
-abbrev pub wrongLength : List ℤ → Bool
-wrongLength xs = not (eqb (length xs) 24)
 
 -- "a confidence is -2,147,483,648"
 abbrev pub isMostNegative : ℤ → Bool

@@ -24,7 +24,8 @@ use Rattle.soft.specs.declared.kinds.SoftAnswer.the-variants as soft
 use Rattle.soft.specs.declared.kinds.ClassFigureAnswer.{ClassFigureAnswer}
 use Rattle.soft.specs.declared.kinds.ClassFigureAnswer.the-variants as figure
 use Rattle.soft.specs.Answers.{softAnswer, classFigureAnswer}
-use Rattle.reading.specs.Checks.{wrongLength, mostNegative}
+use Rattle.golay.specs.Calls.{wrongLength}
+use Rattle.reading.specs.Checks.{mostNegative}
 use Rattle.soft.specs.Calls.{classAbove, told, Decides, SoftRule, HasFigure, ClassFigureRule}
 
 decides-once : (xs : List ℤ) (a b : Answer Soft) → Decides xs a → Decides xs b → a ≡ b
@@ -38,13 +39,13 @@ figure-once xs k a b p q =
 
 pub soft-once : (xs : List ℤ) (a b : Answer Soft) → SoftRule xs a → SoftRule xs b → a ≡ b
 unfolding SoftRule
-soft-once xs = refuse-once _ (wrongLength xs) (refuse-once _ (mostNegative xs) (decides-once xs))
+soft-once xs = refuse-once _ (wrongLength 24 xs) (refuse-once _ (mostNegative xs) (decides-once xs))
 
 pub soft-exists : (xs : List ℤ) → (a : Answer Soft) × SoftRule xs a
 unfolding SoftRule
-soft-exists xs = go (wrongLength xs) (mostNegative xs) refl
+soft-exists xs = go (wrongLength 24 xs) (mostNegative xs) refl
   where
-    go : (w m : Bool) → wrongLength xs ≡ w → (a : Answer Soft) × Refuse WrongLength w (Refuse MostNegative m (Decides xs)) a
+    go : (w m : Bool) → wrongLength 24 xs ≡ w → (a : Answer Soft) × Refuse WrongLength w (Refuse MostNegative m (Decides xs)) a
     go true m e = (refused (number WrongLength), refl)
     go false true e = (refused (number MostNegative), refl)
     go false false e =
@@ -54,7 +55,7 @@ soft-exists xs = go (wrongLength xs) (mostNegative xs) refl
 classFigure-once : (xs : List ℤ) (k : ℕ) (a b : Answer ℤ) → ClassFigureRule xs k a → ClassFigureRule xs k b → a ≡ b
 unfolding ClassFigureRule
 classFigure-once xs k =
-    refuse-once _ (wrongLength xs) (refuse-once _ (mostNegative xs) (refuse-once _ (classAbove k) (figure-once xs k)))
+    refuse-once _ (wrongLength 24 xs) (refuse-once _ (mostNegative xs) (refuse-once _ (classAbove k) (figure-once xs k)))
 
 -- ---- of the calls' own answers, which are made again from what they stand for
 

@@ -14,7 +14,8 @@ use Rattle.code.specs.Code.{messages, codewordOf}
 use Rattle.golay.specs.declared.kinds.Refusal.the-variants.{WrongLength, MostNegative, Tied, ClassAbove}
 use Rattle.golay.specs.Refusals.{number}
 use Rattle.golay.specs.Answers.{Answer, accepted, refused, Refuse}
-use Rattle.reading.specs.Checks.{wrongLength, mostNegative}
+use Rattle.golay.specs.Calls.{wrongLength}
+use Rattle.reading.specs.Checks.{mostNegative}
 use Rattle.classes.specs.Codewords.{word}
 use Rattle.classes.specs.Classes.{classes}
 use Rattle.soft.specs.declared.kinds.Soft.{Soft}
@@ -44,7 +45,7 @@ pub record Decides (xs : List ℤ) (answer : Answer Soft) : Type 0 where
   pub is : answer ≡ told xs outcome
 
 unfoldable pub SoftRule : List ℤ → Answer Soft → Type 0
-SoftRule xs = Refuse WrongLength (wrongLength xs) (Refuse MostNegative (mostNegative xs) (Decides xs))
+SoftRule xs = Refuse WrongLength (wrongLength 24 xs) (Refuse MostNegative (mostNegative xs) (Decides xs))
 
 -- "Its figure is the largest correlation in the class": among the 32 codewords from message 32 k on
 pub record HasFigure (xs : List ℤ) (k : ℕ) (answer : Answer ℤ) : Type 0 where
@@ -54,4 +55,4 @@ pub record HasFigure (xs : List ℤ) (k : ℕ) (answer : Answer ℤ) : Type 0 wh
 
 unfoldable pub ClassFigureRule : List ℤ → ℕ → Answer ℤ → Type 0
 ClassFigureRule xs k =
-    Refuse WrongLength (wrongLength xs) (Refuse MostNegative (mostNegative xs) (Refuse ClassAbove (classAbove k) (HasFigure xs k)))
+    Refuse WrongLength (wrongLength 24 xs) (Refuse MostNegative (mostNegative xs) (Refuse ClassAbove (classAbove k) (HasFigure xs k)))

@@ -8,8 +8,8 @@ use native.Mathlib.Nat.{le-of-suc-le-suc, not-suc-le-zero, zero-lt-suc, pow-suc,
 use native.Mathlib.Omega.{arith}
 use lib.Arith.{lt-one}
 use lib.Bits.{bitXor, xor-shr, xor-mod, xor-add-and, block-half, block-odd}
 use Rattle.binary.specs.Words.{ones}
-use Rattle.binary.proofs.Ones.{ones-zero}
+use Rattle.binary.proofs.Ones.{half-lt, ones-zero}
 
 pub le-or-lt : (a b : ℕ) → (a ≤ b) ⊎ (b < a)
 le-or-lt zero b = inl zero-le
@@ -21,9 +21,6 @@ unfolding ones
 ones-xor zero a b = omega arith
 ones-xor (suc n) a b =
     omega (arith, xor-mod a b 1, xor-add-and (a % 2) (b % 2), ap (ones n) (xor-shr a b 1), ones-xor n (a / 2) (b / 2))
-
-pub half-lt : (n w : ℕ) → w < 2 ^ suc n → w / 2 < 2 ^ n
-half-lt n w h = let b : w < 2 ^ n * 2 = rw pow-suc at h in omega arith
 
 pub no-ones : (n w : ℕ) → w < 2 ^ n → ones n w ≤ 0 → w ≡ 0
 unfolding ones
