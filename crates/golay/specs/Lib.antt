@@ -1,4 +1,5 @@
 pub mod Refusals
 pub mod Answers
 pub mod Bytes
+pub mod Columns
 pub mod Calls

@@ -9,6 +9,7 @@ ghost use Rattle.code.specs.Code.{words, isCodeword, syndromeOf};
 ghost use Rattle.golay.specs.Refusals.{number};
 ghost use Rattle.golay.specs.Answers.{encodeAnswer, readAnswer, syndromeAnswer, distanceAnswer, writeBytesAnswer, readBytesAnswer};
 ghost use Rattle.golay.specs.Bytes.{wordOf};
+ghost use Rattle.golay.specs.Columns.{columnSum};
 ghost use Rattle.golay.specs.Calls.{encodeRule, readRule, syndromeRule, distanceRule, readBytesRule, WritesBytes};
 
 pub mod kinds;
@@ -25,8 +26,13 @@ use kinds::Syndrome;
 use kinds::SyndromeAnswer;
 use kinds::WriteBytesAnswer;
 use rows::CODEWORDS;
+use rows::COLUMN_1;
+use rows::COLUMN_2;
+use rows::COLUMN_3;
+use rows::COLUMN_4;
+use rows::COLUMN_5;
+use rows::COLUMN_6;
 use rows::MESSAGE_BITS;
-use rows::SYNDROMES;
 
 const MESSAGES: u32 = 4_096;
 
@@ -57,15 +63,15 @@ fn four_rows(a: u32, b: u32, c: u32, d: u32, column: u32) -> u32
 
 // The same, found among those of all sixteen columns. The compiler lays the loop out turn by turn; where it knows the rows, each turn's sum is
 // then a number, and the sixteen numbers become a table in the program's text.
-fn column_sum(a: u32, b: u32, c: u32, d: u32, column: u32) -> u32
+fn column_sum(rows: [u32; 4], column: u32) -> u32
     requires { ⌜ column < 16 ⌝ }
-    ensures { λ r. ⌜ r ≡ rowSum (a ∷ b ∷ c ∷ d ∷ []) column ⌝ }
+    ensures { λ r. ⌜ r ≡ columnSum rows column ⌝ }
 {
     let mut found: u32 = 0;
     let mut i: u32 = 0;
     while i < 16 {
         if i == column {
-            found = four_rows(a, b, c, d, i);
+            found = four_rows(rows[0], rows[1], rows[2], rows[3], i);
         }
         i += 1;
     }
@@ -77,19 +83,12 @@ fn syndrome_of(word: u32) -> u32
     requires { ⌜ word < words ⌝ }
     ensures { λ r. ⌜ r ≡ syndromeOf word ⌝ }
 {
-    let rows = SYNDROMES;
-    column_sum(rows[0], rows[1], rows[2], rows[3], word % 16)
-        ^ column_sum(rows[4], rows[5], rows[6], rows[7], word / 16 % 16)
-        ^ column_sum(rows[8], rows[9], rows[10], rows[11], word / 256 % 16)
-        ^ column_sum(rows[12], rows[13], rows[14], rows[15], word / 4_096 % 16)
-        ^ column_sum(rows[16], rows[17], rows[18], rows[19], word / 65_536 % 16)
-        ^ column_sum(
-            rows[20],
-            rows[21],
-            rows[22],
-            rows[23],
-            word / 1_048_576 % 16,
-        )
+    column_sum(COLUMN_6, word % 16)
+        ^ column_sum(COLUMN_5, word / 16 % 16)
+        ^ column_sum(COLUMN_4, word / 256 % 16)
+        ^ column_sum(COLUMN_3, word / 4_096 % 16)
+        ^ column_sum(COLUMN_2, word / 65_536 % 16)
+        ^ column_sum(COLUMN_1, word / 1_048_576 % 16)
 }
 
 fn is_codeword(word: u32) -> bool

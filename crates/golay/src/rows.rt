@@ -16,32 +16,45 @@ pub const CODEWORDS: [u32; 12] = [
     0x777778,
 ];
 
+// The syndromes of the single positions of each column, from its lowest up.
+pub const COLUMN_6: [u32; 4] = [0x083, 0x082, 0x081, 0x0C0];
+
+pub const COLUMN_5: [u32; 4] = [0x10C, 0x108, 0x104, 0x140];
+
+pub const COLUMN_4: [u32; 4] = [0x230, 0x220, 0x210, 0x240];
+
+pub const COLUMN_3: [u32; 4] = [0x43F, 0x42A, 0x415, 0x440];
+
+pub const COLUMN_2: [u32; 4] = [0x836, 0x82D, 0x81B, 0x840];
+
+pub const COLUMN_1: [u32; 4] = [0xFF9, 0xFE7, 0xFDE, 0xF80];
+
 // The syndromes of the single positions, from position 24 up to position 1.
 pub const SYNDROMES: [u32; 24] = [
-    0x083,
-    0x082,
-    0x081,
-    0x0C0,
-    0x10C,
-    0x108,
-    0x104,
-    0x140,
-    0x230,
-    0x220,
-    0x210,
-    0x240,
-    0x43F,
-    0x42A,
-    0x415,
-    0x440,
-    0x836,
-    0x82D,
-    0x81B,
-    0x840,
-    0xFF9,
-    0xFE7,
-    0xFDE,
-    0xF80,
+    COLUMN_6[0],
+    COLUMN_6[1],
+    COLUMN_6[2],
+    COLUMN_6[3],
+    COLUMN_5[0],
+    COLUMN_5[1],
+    COLUMN_5[2],
+    COLUMN_5[3],
+    COLUMN_4[0],
+    COLUMN_4[1],
+    COLUMN_4[2],
+    COLUMN_4[3],
+    COLUMN_3[0],
+    COLUMN_3[1],
+    COLUMN_3[2],
+    COLUMN_3[3],
+    COLUMN_2[0],
+    COLUMN_2[1],
+    COLUMN_2[2],
+    COLUMN_2[3],
+    COLUMN_1[0],
+    COLUMN_1[1],
+    COLUMN_1[2],
+    COLUMN_1[3],
 ];
 
 // The message bits that a one at each position puts in, from position 24 up to position 1.

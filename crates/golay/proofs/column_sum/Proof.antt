@@ -2,25 +2,33 @@
 -- Assumes nothing.
 use mathlib.Core.Path.{_≡_, ap, _∙_}
 use mathlib.Core.Logic.{⊎-elim}
-use mathlib.Core.List.{[], _∷_}
 use Prim.Native.Nat.{ℕ, _-_, _≤_, _<_}
 use native.Mathlib.Omega.{arith}
 use borrow.Author.Needs.{needs}
-use Rattle.binary.specs.Words.{rowSum}
+use Rattle.golay.specs.Columns.{columnSum}
 use Rattle.golay.proofs.column_sum.Statement.{statement}
 use Rattle.golay.proofs.column_sum.Tie as tie
-use Rattle.golay.proofs.column_sum.Reads as reads
-use Rattle.golay.proofs.column_sum.Lts as lts
-use Rattle.golay.proofs.four_rows.Reads as four-rows-reads
 
 abbrev Inv-loop : tie.InvT-loop
-Inv-loop a b c d column found₀ i₀ found i = (i ≤ 16) × (column < i → found ≡ rowSum (a ∷ b ∷ c ∷ d ∷ []) column)
+Inv-loop column rows found₀ i₀ found i = (i ≤ 16) × (column < i → found ≡ columnSum rows column)
 
 abbrev μ-loop : tie.MeasureT-loop
-μ-loop a b c d column found₀ i₀ found i = 16 - i
+μ-loop column rows found₀ i₀ found i = 16 - i
 
 loop-holds : tie.Need-loop-holds Inv-loop μ-loop
 loop-holds c = (search needs, λ h. let e : ⊥ = omega arith in absurd e)
+
+array-read-four-rows : tie.Need-array-read-four-rows Inv-loop μ-loop
+array-read-four-rows c = search needs
+
+array-read-four-rows-2 : tie.Need-array-read-four-rows-2 Inv-loop μ-loop
+array-read-four-rows-2 c = search needs
+
+array-read-four-rows-3 : tie.Need-array-read-four-rows-3 Inv-loop μ-loop
+array-read-four-rows-3 c = search needs
+
+array-read-four-rows-4 : tie.Need-array-read-four-rows-4 Inv-loop μ-loop
+array-read-four-rows-4 c = search needs
 
 four-rows-requires : tie.Need-four-rows-requires Inv-loop μ-loop
 four-rows-requires c κs = search needs
@@ -33,8 +41,7 @@ loop-less c = search needs
 
 loop-again : tie.Need-loop-again Inv-loop μ-loop
 loop-again c =
-    let args = c .before .before .before .args in
-    let sum = rowSum (args .a ∷ args .b ∷ args .c ∷ args .d ∷ []) in
+    let sum = columnSum (c .before .before .before .args .t1) in
     (search needs, λ h. ⊎-elim (λ w. w .2 ∙ w .1 .ensures ∙ ap sum (w .0 .taken)) (λ w. w .1 ∙ c .before .before .loop .inv .1 (omega arith)) (c .if1 .came))
 
 returns : tie.Need-returns Inv-loop μ-loop
@@ -43,4 +50,16 @@ returns c = c .before .loop .inv .1 (omega arith)
 pub column-sum-spec : {M : Type 1} → statement M
 column-sum-spec =
     tie.close
-    (tie.spec Inv-loop μ-loop loop-holds four-rows-requires add-i loop-less loop-again returns)
+    (tie.spec
+    Inv-loop
+    μ-loop
+    loop-holds
+    array-read-four-rows
+    array-read-four-rows-2
+    array-read-four-rows-3
+    array-read-four-rows-4
+    four-rows-requires
+    add-i
+    loop-less
+    loop-again
+    returns)

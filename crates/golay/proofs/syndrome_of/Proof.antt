@@ -1,11 +1,10 @@
 -- `golay::syndrome_of` meets its contract: the sum over the columns is additive, as the syndrome is, and agrees with it at each position.
 -- Assumes nothing.
-use mathlib.Core.Path.{_≡_, _∙_, sym}
+use mathlib.Core.Path.{_≡_, ap₂, _∙_, sym}
 use Prim.Native.Nat.{ℕ, zero, suc, _*_, _/_, _%_, _^_, _<_}
 use lib.Bits.{bitXor, xor-shr, xor-mod}
-use native.Mathlib.Nat.{mod-lt}
-use lib.Dec.{lit<}
 use lib.ListN.{take, drop}
+use borrow.Author.Needs.{needs}
 use Rattle.binary.specs.Words.{rowSum}
 use Rattle.binary.proofs.Linear.{Additive, additive-after, additive-sum, rowSum-add, agree}
 use Rattle.code.specs.Code.{words, syndromeOf}
@@ -34,18 +33,6 @@ syndrome-parts : (word : ℕ) → word < words → syndromeOf word ≡ parts 5 w
 unfolding syndromeOf
 syndrome-parts = agree syndromeOf (parts 5) syndrome-add (parts-add 5) 24 tt
 
--- a sum of six, term by term
-six :
-    {a b c d e f u v w x y z : ℕ}
-    → a ≡ u
-    → b ≡ v
-    → c ≡ w
-    → d ≡ x
-    → e ≡ y
-    → f ≡ z
-    → bitXor (bitXor (bitXor (bitXor (bitXor a b) c) d) e) f ≡ bitXor (bitXor (bitXor (bitXor (bitXor u v) w) x) y) z
-six p q r s t k i = bitXor (bitXor (bitXor (bitXor (bitXor (p i) (q i)) (r i)) (s i)) (t i)) (k i)
-
 returns : tie.Need-returns
 returns c =
     let c5 = c .before in
@@ -54,42 +41,25 @@ returns c =
     let c2 = c3 .before in
     let c1 = c2 .before in
     let start = c1 .before in
-    six (c1 .column-sum .ensures) (c2 .column-sum2 .ensures) (c3 .column-sum3 .ensures) (c4 .column-sum4 .ensures) (c5 .column-sum5 .ensures) (c .column-sum6 .ensures)
+    ap₂ bitXor
+    (ap₂ bitXor
+    (ap₂ bitXor
+    (ap₂ bitXor
+    (ap₂ bitXor (c1 .column-sum .ensures) (c2 .column-sum2 .ensures))
+    (c3 .column-sum3 .ensures))
+    (c4 .column-sum4 .ensures))
+    (c5 .column-sum5 .ensures))
+    (c .column-sum6 .ensures)
     ∙ sym (syndrome-parts (start .args .word) (start .pre))
 
--- what each of the six calls reads and asks
 pub syndrome-of-spec : {M : Type 1} → statement M
 syndrome-of-spec =
     tie.close
     (tie.spec
-    (λ c. lit< tt)
-    (λ c. lit< tt)
-    (λ c. lit< tt)
-    (λ c. lit< tt)
-    (λ c κs. mod-lt _ (lit< tt))
-    (λ c. lit< tt)
-    (λ c. lit< tt)
-    (λ c. lit< tt)
-    (λ c. lit< tt)
-    (λ c κs. mod-lt _ (lit< tt))
-    (λ c. lit< tt)
-    (λ c. lit< tt)
-    (λ c. lit< tt)
-    (λ c. lit< tt)
-    (λ c κs. mod-lt _ (lit< tt))
-    (λ c. lit< tt)
-    (λ c. lit< tt)
-    (λ c. lit< tt)
-    (λ c. lit< tt)
-    (λ c κs. mod-lt _ (lit< tt))
-    (λ c. lit< tt)
-    (λ c. lit< tt)
-    (λ c. lit< tt)
-    (λ c. lit< tt)
-    (λ c κs. mod-lt _ (lit< tt))
-    (λ c. lit< tt)
-    (λ c. lit< tt)
-    (λ c. lit< tt)
-    (λ c. lit< tt)
-    (λ c κs. mod-lt _ (lit< tt))
+    (λ c κs. search needs)
+    (λ c κs. search needs)
+    (λ c κs. search needs)
+    (λ c κs. search needs)
+    (λ c κs. search needs)
+    (λ c κs. search needs)
     returns)

@@ -10,9 +10,6 @@ use borrow.Author.Needs.{needs}
 use Rattle.patterns.specs.Patterns.{IsPattern}
 use Rattle.hard.proofs.pattern.Statement.{statement}
 use Rattle.hard.proofs.pattern.Tie as tie
-use Rattle.hard.proofs.pattern.Reads as reads
-use Rattle.hard.proofs.pattern.Lts as lts
-use Rattle.hard.proofs.table.row.Reads as row-reads
 
 abbrev Inv-loop : tie.InvT-loop
 Inv-loop s row at found₀ i₀ found i = (i ≤ 32) × (at < i → found ≡ getD row at 0)
