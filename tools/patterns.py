@@ -84,6 +84,7 @@ def source_row(table, n):
 def source_rows(quarter):
     """The function that picks one of a quarter's rows."""
     lines = [
+        f"// A row of those from syndrome {quarter * ROWS * ROW:,} on.",
         f"fn rows_{quarter}(row: u32) -> [u32; {ROW}]",
         f"    requires {{ ⌜ row < {ROWS} ⌝ }}",
         f"    ensures {{ λ r. ⌜ ArePatterns ({quarter * ROWS * ROW} + row * {ROW}) {ROW} r ⌝ }}",
@@ -107,6 +108,7 @@ def rt(table):
     for quarter in range(QUARTERS):
         lines += source_rows(quarter)
     lines += [
+        f"// The row that the pattern of a syndrome stands in. The remainders tell the compiler that there are {QUARTERS} quarters of {ROWS} rows.",
         f"pub(crate) fn row(s: u32) -> [u32; {ROW}]",
         f"    requires {{ ⌜ s < {SYNDROMES} ⌝ }}",
         f"    ensures {{ λ r. ⌜ ArePatterns (s / {ROW} * {ROW}) {ROW} r ⌝ }}",

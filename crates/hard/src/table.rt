@@ -4482,6 +4482,7 @@ const ROW_7F: [u32; 32] = [
     0x809000,
 ];
 
+// A row of those from syndrome 0 on.
 fn rows_0(row: u32) -> [u32; 32]
     requires { ⌜ row < 32 ⌝ }
     ensures { λ r. ⌜ ArePatterns (0 + row * 32) 32 r ⌝ }
@@ -4522,6 +4523,7 @@ fn rows_0(row: u32) -> [u32; 32]
     }
 }
 
+// A row of those from syndrome 1,024 on.
 fn rows_1(row: u32) -> [u32; 32]
     requires { ⌜ row < 32 ⌝ }
     ensures { λ r. ⌜ ArePatterns (1024 + row * 32) 32 r ⌝ }
@@ -4562,6 +4564,7 @@ fn rows_1(row: u32) -> [u32; 32]
     }
 }
 
+// A row of those from syndrome 2,048 on.
 fn rows_2(row: u32) -> [u32; 32]
     requires { ⌜ row < 32 ⌝ }
     ensures { λ r. ⌜ ArePatterns (2048 + row * 32) 32 r ⌝ }
@@ -4602,6 +4605,7 @@ fn rows_2(row: u32) -> [u32; 32]
     }
 }
 
+// A row of those from syndrome 3,072 on.
 fn rows_3(row: u32) -> [u32; 32]
     requires { ⌜ row < 32 ⌝ }
     ensures { λ r. ⌜ ArePatterns (3072 + row * 32) 32 r ⌝ }
@@ -4642,6 +4646,7 @@ fn rows_3(row: u32) -> [u32; 32]
     }
 }
 
+// The row that the pattern of a syndrome stands in. The remainders tell the compiler that there are 4 quarters of 32 rows.
 pub(crate) fn row(s: u32) -> [u32; 32]
     requires { ⌜ s < 4096 ⌝ }
     ensures { λ r. ⌜ ArePatterns (s / 32 * 32) 32 r ⌝ }
