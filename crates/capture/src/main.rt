@@ -141,6 +141,11 @@ fn main() {
         decode(STDIN_FILENO, b"standard input");
         return;
     }
+    // An argument that is longer than any path: its first bytes name it.
+    if os::errno() != 0 {
+        os::fail(&path);
+        return;
+    }
     let fd = os::open_read(&path[..length]);
     if fd < 0 {
         os::fail(&path[..length]);

@@ -1,5 +1,5 @@
 // The run over bytes of a capture: each record's line, and the line where it stopped, into a lent buffer. All that the program prints is made
-// here and in `records`.
+// here and in `lines`.
 ghost use mathlib.Core.Path.{_≡_};
 ghost use mathlib.Core.List.{List};
 ghost use Prim.Native.Nat.{ℕ, _+_, _-_, _≤_};
