@@ -17,16 +17,16 @@ use soft::kinds::SoftAnswer;
 const RECORD: usize = 98;
 
 // How many bytes of text the run put into the buffer, and whether it stopped with 9 or 10.
-pub struct Outcome {
-    pub put: usize,
-    pub stopped: bool,
+pub(crate) struct Outcome {
+    pub(crate) put: usize,
+    pub(crate) stopped: bool,
 }
 
 // How many bytes are left after a turn, and the offset of the first of them.
-pub struct Turned {
-    pub outcome: Outcome,
-    pub left: usize,
-    pub next: u64,
+pub(crate) struct Turned {
+    pub(crate) outcome: Outcome,
+    pub(crate) left: usize,
+    pub(crate) next: u64,
 }
 
 // The line of a reading's answer, where there is room for any line.
@@ -47,7 +47,7 @@ fn write_answer(reading: &[i32], out: &mut [u8], at: usize) -> usize
 }
 
 // The run over bytes that begin at an offset of the capture: the text of them all, at the start of the buffer.
-pub fn run(bytes: &[u8], offset: u64, out: &mut [u8]) -> Outcome
+pub(crate) fn run(bytes: &[u8], offset: u64, out: &mut [u8]) -> Outcome
     requires { ⌜ Room offset (length (now bytes)) (length (now out)) ⌝ }
     ensures { λ r. ⌜ Runs offset (now (bytes .entry)) (now (out .entry)) (now (out .exit)) r ⌝ }
 {
@@ -93,7 +93,7 @@ fn keep(held: &mut [u8], from: usize, end: usize)
 
 // The run over the whole records among the first bytes that are held, which begin at an offset of the capture; the rest of these bytes moves to
 // the front.
-pub fn turn(held: &mut [u8], count: usize, offset: u64, out: &mut [u8]) -> Turned
+pub(crate) fn turn(held: &mut [u8], count: usize, offset: u64, out: &mut [u8]) -> Turned
     requires { ⌜ count ≤ length (now held) ⌝ }
     requires { ⌜ Room offset count (length (now out)) ⌝ }
     ensures { λ r. ⌜ Turns offset (take count (now (held .entry))) (now (out .entry)) (now (out .exit)) (now (held .exit)) r ⌝ }
