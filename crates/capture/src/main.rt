@@ -120,6 +120,7 @@ fn decode(fd: i32, name: &[u8]) {
     if write_header() {
         let shows = shows_progress();
         let mut held = io::large_buffer();
+        // as many bytes as are held, and one line more
         let mut text = [0u8; 65572];
         decode_pieces(fd, name, shows, &mut held, &mut text);
         clear_progress(shows);

@@ -11,10 +11,9 @@ ghost use Rattle.lines.specs.Lines.{answerLine, longest};
 ghost use Rattle.lines.specs.Buffers.{Puts};
 ghost use Rattle.capture.specs.Decoding.{Decoder};
 ghost use Rattle.capture.specs.Runs.{Room, Runs, Turns};
+use records::RECORD;
 use records::kinds::Step;
 use soft::kinds::SoftAnswer;
-
-const RECORD: usize = 98;
 
 // How many bytes of text the run put into the buffer, and whether it stopped with 9 or 10.
 pub(crate) struct Outcome {

@@ -9,7 +9,7 @@ ghost use Rattle.code.specs.Code.{words, isCodeword, syndromeOf};
 ghost use Rattle.golay.specs.Refusals.{number};
 ghost use Rattle.golay.specs.Answers.{encodeAnswer, readAnswer, syndromeAnswer, distanceAnswer, writeBytesAnswer, readBytesAnswer};
 ghost use Rattle.golay.specs.Bytes.{wordOf};
-ghost use Rattle.golay.specs.Columns.{columnSum};
+ghost use Rattle.golay.specs.Columns.{columnSyndrome};
 ghost use Rattle.golay.specs.Calls.{encodeRule, readRule, syndromeRule, distanceRule, readBytesRule, WritesBytes};
 
 pub mod kinds;
@@ -63,9 +63,9 @@ fn four_rows(a: u32, b: u32, c: u32, d: u32, column: u32) -> u32
 
 // The same, found among those of all sixteen columns. The compiler lays the loop out turn by turn; where it knows the rows, each turn's sum is
 // then a number, and the sixteen numbers become a table in the program's text.
-fn column_sum(rows: [u32; 4], column: u32) -> u32
+fn column_syndrome(rows: [u32; 4], column: u32) -> u32
     requires { ⌜ column < 16 ⌝ }
-    ensures { λ r. ⌜ r ≡ columnSum rows column ⌝ }
+    ensures { λ r. ⌜ r ≡ columnSyndrome rows column ⌝ }
 {
     let mut found: u32 = 0;
     let mut i: u32 = 0;
@@ -83,12 +83,12 @@ fn syndrome_of(word: u32) -> u32
     requires { ⌜ word < words ⌝ }
     ensures { λ r. ⌜ r ≡ syndromeOf word ⌝ }
 {
-    column_sum(COLUMN_6, word % 16)
-        ^ column_sum(COLUMN_5, word / 16 % 16)
-        ^ column_sum(COLUMN_4, word / 256 % 16)
-        ^ column_sum(COLUMN_3, word / 4_096 % 16)
-        ^ column_sum(COLUMN_2, word / 65_536 % 16)
-        ^ column_sum(COLUMN_1, word / 1_048_576 % 16)
+    column_syndrome(COLUMN_6, word % 16)
+        ^ column_syndrome(COLUMN_5, word / 16 % 16)
+        ^ column_syndrome(COLUMN_4, word / 256 % 16)
+        ^ column_syndrome(COLUMN_3, word / 4_096 % 16)
+        ^ column_syndrome(COLUMN_2, word / 65_536 % 16)
+        ^ column_syndrome(COLUMN_1, word / 1_048_576 % 16)
 }
 
 fn is_codeword(word: u32) -> bool

@@ -9,7 +9,7 @@ pub mod kinds;
 use golay::kinds::Refusal;
 use kinds::Step;
 
-const RECORD: usize = 98;
+pub const RECORD: usize = 98;
 
 // What stands at a record's start, at a place of a capture or of a part of it; past the end nothing is left. Stops with 10, 9, then 10.
 pub fn step(bytes: &[u8], at: usize) -> Step

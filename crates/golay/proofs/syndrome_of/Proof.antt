@@ -45,11 +45,11 @@ returns c =
     (ap₂ bitXor
     (ap₂ bitXor
     (ap₂ bitXor
-    (ap₂ bitXor (c1 .column-sum .ensures) (c2 .column-sum2 .ensures))
-    (c3 .column-sum3 .ensures))
-    (c4 .column-sum4 .ensures))
-    (c5 .column-sum5 .ensures))
-    (c .column-sum6 .ensures)
+    (ap₂ bitXor (c1 .column-syndrome .ensures) (c2 .column-syndrome2 .ensures))
+    (c3 .column-syndrome3 .ensures))
+    (c4 .column-syndrome4 .ensures))
+    (c5 .column-syndrome5 .ensures))
+    (c .column-syndrome6 .ensures)
     ∙ sym (syndrome-parts (start .args .word) (start .pre))
 
 pub syndrome-of-spec : {M : Type 1} → statement M

@@ -1,16 +1,16 @@
--- `golay::column_sum` meets its contract. The invariant: once the loop has passed the column, it holds its sum.
+-- `golay::column_syndrome` meets its contract. The invariant: once the loop has passed the column, it holds its sum.
 -- Assumes nothing.
 use mathlib.Core.Path.{_≡_, ap, _∙_}
 use mathlib.Core.Logic.{⊎-elim}
 use Prim.Native.Nat.{ℕ, _-_, _≤_, _<_}
 use native.Mathlib.Omega.{arith}
 use borrow.Author.Needs.{needs}
-use Rattle.golay.specs.Columns.{columnSum}
-use Rattle.golay.proofs.column_sum.Statement.{statement}
-use Rattle.golay.proofs.column_sum.Tie as tie
+use Rattle.golay.specs.Columns.{columnSyndrome}
+use Rattle.golay.proofs.column_syndrome.Statement.{statement}
+use Rattle.golay.proofs.column_syndrome.Tie as tie
 
 abbrev Inv-loop : tie.InvT-loop
-Inv-loop column rows found₀ i₀ found i = (i ≤ 16) × (column < i → found ≡ columnSum rows column)
+Inv-loop column rows found₀ i₀ found i = (i ≤ 16) × (column < i → found ≡ columnSyndrome rows column)
 
 abbrev μ-loop : tie.MeasureT-loop
 μ-loop column rows found₀ i₀ found i = 16 - i
@@ -41,14 +41,14 @@ loop-less c = search needs
 
 loop-again : tie.Need-loop-again Inv-loop μ-loop
 loop-again c =
-    let sum = columnSum (c .before .before .before .args .t1) in
+    let sum = columnSyndrome (c .before .before .before .args .t1) in
     (search needs, λ h. ⊎-elim (λ w. w .2 ∙ w .1 .ensures ∙ ap sum (w .0 .taken)) (λ w. w .1 ∙ c .before .before .loop .inv .1 (omega arith)) (c .if1 .came))
 
 returns : tie.Need-returns Inv-loop μ-loop
 returns c = c .before .loop .inv .1 (omega arith)
 
-pub column-sum-spec : {M : Type 1} → statement M
-column-sum-spec =
+pub column-syndrome-spec : {M : Type 1} → statement M
+column-syndrome-spec =
     tie.close
     (tie.spec
     Inv-loop
