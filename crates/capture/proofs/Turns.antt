@@ -15,7 +15,7 @@ use Rattle.records.specs.Records.{recordLength}
 use Rattle.records.specs.Capture.{stopsFrom, linesFrom}
 use Rattle.records.proofs.Texts.{lines-piece}
 use Rattle.capture.specs.declared.run.Outcome.{Outcome}
-use Rattle.capture.specs.Runs.{Runs, wholes, Turns, joined, turnsFrom}
+use Rattle.capture.specs.Runs.{Runs, wholes, Turns, allPieces, turnsFrom}
 
 module _ (held : List ℕ) (count : ℕ) (h : count ≤ length held) where
   pub long-front : length (take (wholes count) held) ≡ wholes count
@@ -52,19 +52,19 @@ module _ (held : List ℕ) (count : ℕ) (h : count ≤ length held) where
       record { ran = rw (long, ← front) ran; count = rw long; kept-left = rw long kept; next = rw long }
 
 module _ (decode : List ℤ → Answer (ℕ × ℕ)) where
-  pub turns-text : (offset : ℕ) (held : List ℕ) (pieces : List (List ℕ)) → turnsFrom decode offset held pieces ≡ linesFrom decode offset (held ++ joined pieces)
+  pub turns-text : (offset : ℕ) (held : List ℕ) (pieces : List (List ℕ)) → turnsFrom decode offset held pieces ≡ linesFrom decode offset (held ++ allPieces pieces)
   unfolding turnsFrom
   turns-text offset held [] = ap (linesFrom decode offset) (sym (append-nil held))
   turns-text offset held (piece ∷ pieces) =
       let bytes = held ++ piece in
       let n = wholes (length bytes) in
-      let later = drop n bytes ++ joined pieces in
+      let later = drop n bytes ++ allPieces pieces in
       let long : length (take n bytes) ≡ n = length-take-le n bytes (omega arith) in
       let whole : length (take n bytes) ≡ length bytes / recordLength * recordLength = omega (arith, long) in
       ap (λ (t : List ℕ). linesFrom decode offset (take n bytes) ++ cond (stopsFrom offset (take n bytes)) [] t)
       (turns-text (offset + n) (drop n bytes) pieces ∙ ap (λ (k : ℕ). linesFrom decode (offset + k) later) (sym long))
       ∙ sym (lines-piece decode (length bytes / recordLength) offset (take n bytes) later whole)
       ∙ ap (linesFrom decode offset)
-      (sym (append-assoc (take n bytes) (drop n bytes) (joined pieces))
-      ∙ ap (λ (l : List ℕ). l ++ joined pieces) (take-append-drop n bytes)
-      ∙ append-assoc held piece (joined pieces))
+      (sym (append-assoc (take n bytes) (drop n bytes) (allPieces pieces))
+      ∙ ap (λ (l : List ℕ). l ++ allPieces pieces) (take-append-drop n bytes)
+      ∙ append-assoc held piece (allPieces pieces))

@@ -38,9 +38,9 @@ pub record Turns (offset : ℕ) (bytes before after kept : List ℕ) (r : Turned
   pub next : r .next ≡ offset + wholes (length bytes)
 
 -- the pieces in one
-abbrev pub joined : List (List ℕ) → List ℕ
-joined [] = []
-joined (piece ∷ pieces) = piece ++ joined pieces
+abbrev pub allPieces : List (List ℕ) → List ℕ
+allPieces [] = []
+allPieces (piece ∷ pieces) = piece ++ allPieces pieces
 
 module _ (decode : List ℤ → Answer (ℕ × ℕ)) where
   -- the text of all turns, each over what the one before left and the piece that a read brought; at the end of the input, of what is left

@@ -12,10 +12,10 @@ use lib.Seq.{take-all}
 use Rattle.binary.proofs.Tests.{and-left, and-right, all, below}
 use Rattle.code.specs.Code.{messages, codewordOf}
 use Rattle.contest.specs.Readings.{correlation, scores}
-use Rattle.contest.proofs.Numbers.{tops}
+use Rattle.contest.specs.Numbers.{tops}
 use Rattle.classes.specs.Codewords.{word}
 use Rattle.classes.specs.Classes.{classes, parityOf, charactersOf, classSums}
-use Rattle.classes.proofs.Columns.{joined, correlation-joined}
+use Rattle.classes.proofs.Columns.{fromColumns, correlation-columns}
 
 -- ---- a test of two words of bits
 
@@ -23,11 +23,11 @@ sameBit : Bool → Bool → Bool
 sameBit true b = b
 sameBit false b = not b
 
-same : List Bool → List Bool → Bool
-same [] [] = true
-same [] (c ∷ cs) = false
-same (b ∷ bs) [] = false
-same (b ∷ bs) (c ∷ cs) = sameBit b c && same bs cs
+sameWord : List Bool → List Bool → Bool
+sameWord [] [] = true
+sameWord [] (c ∷ cs) = false
+sameWord (b ∷ bs) [] = false
+sameWord (b ∷ bs) (c ∷ cs) = sameBit b c && sameWord bs cs
 
 sameBit-eq : (b c : Bool) → T (sameBit b c) → b ≡ c
 unfolding sameBit
@@ -36,13 +36,13 @@ sameBit-eq true false t = absurd t
 sameBit-eq false true t = absurd t
 sameBit-eq false false t = refl
 
-same-eq : (bs cs : List Bool) → T (same bs cs) → bs ≡ cs
-unfolding same
-same-eq [] [] t = refl
-same-eq [] (c ∷ cs) t = absurd t
-same-eq (b ∷ bs) [] t = absurd t
-same-eq (b ∷ bs) (c ∷ cs) t =
-    ap₂ (λ (x : Bool) (y : List Bool). x ∷ y) (sameBit-eq b c (and-left (sameBit b c) (same bs cs) t)) (same-eq bs cs (and-right (sameBit b c) (same bs cs) t))
+sameWord-eq : (bs cs : List Bool) → T (sameWord bs cs) → bs ≡ cs
+unfolding sameWord
+sameWord-eq [] [] t = refl
+sameWord-eq [] (c ∷ cs) t = absurd t
+sameWord-eq (b ∷ bs) [] t = absurd t
+sameWord-eq (b ∷ bs) (c ∷ cs) t =
+    ap₂ (λ (x : Bool) (y : List Bool). x ∷ y) (sameBit-eq b c (and-left (sameBit b c) (sameWord bs cs) t)) (sameWord-eq bs cs (and-right (sameBit b c) (sameWord bs cs) t))
 
 -- ---- every codeword
 
@@ -51,15 +51,15 @@ abbrev pub topsOf : ℕ → ℕ → List Bool
 topsOf k j = tops 5 (eqb (parityOf k) 1) j
 
 built : ℕ → Bool
-built m = same (word m) (joined (parityOf (m / 32)) (topsOf (m / 32) (m % 32)) (charactersOf (m / 32)))
+built m = sameWord (word m) (fromColumns (parityOf (m / 32)) (topsOf (m / 32) (m % 32)) (charactersOf (m / 32)))
 
 all-built : T (all built messages)
-unfolding built same sameBit word codewordOf charactersOf
+unfolding built sameWord sameBit word codewordOf charactersOf
 all-built = tt
 
-word-joined : (m : ℕ) → m < messages → word m ≡ joined (parityOf (m / 32)) (topsOf (m / 32) (m % 32)) (charactersOf (m / 32))
+word-columns : (m : ℕ) → m < messages → word m ≡ fromColumns (parityOf (m / 32)) (topsOf (m / 32) (m % 32)) (charactersOf (m / 32))
 unfolding built
-word-joined m h = same-eq _ _ (below built messages all-built m h)
+word-columns m h = sameWord-eq _ _ (below built messages all-built m h)
 
 module _ (xs : List ℤ) (long : length xs ≡ 24) where
   by-class : (m : ℕ) → m < messages → scores word xs m ≡ correlation (topsOf (m / 32) (m % 32)) (classSums xs (m / 32))
@@ -68,8 +68,8 @@ module _ (xs : List ℤ) (long : length xs ≡ 24) where
       let k = m / 32 in
       let ts = topsOf k (m % 32) in
       let g : xs ≡ take 24 xs = sym (take-all 24 xs (omega arith)) in
-      rw (word-joined m h)
-      (ap (correlation (joined (parityOf k) ts (charactersOf k))) g ∙ correlation-joined (parityOf k) xs ts (charactersOf k) refl (omega arith))
+      rw (word-columns m h)
+      (ap (correlation (fromColumns (parityOf k) ts (charactersOf k))) g ∙ correlation-columns (parityOf k) xs ts (charactersOf k) refl (omega arith))
 
   -- word j of class k
   pub in-class : (k : ℕ) → k < classes → (j : ℕ) → j < 32 → scores word xs (k * 32 + j) ≡ correlation (topsOf k j) (classSums xs k)

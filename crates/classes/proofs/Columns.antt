@@ -9,7 +9,7 @@ use lib.ListN.{length, take, drop, length-append, length-take}
 use lib.Seq.{take-add}
 use Rattle.signed.specs.Sign.{signed}
 use Rattle.contest.specs.Readings.{correlation}
-use Rattle.classes.specs.Classes.{interpreted, columnSum, columnSums}
+use Rattle.classes.specs.Classes.{topZero, columnSum, columnSums}
 
 -- ---- any words and readings
 
@@ -44,33 +44,33 @@ correlation-turned false bs xs = refl
 correlation-turned true bs xs = correlation-not bs xs
 
 -- the word with these characters and top bits, the last column's first
-abbrev pub joined : ℕ → List Bool → List ℕ → List Bool
-joined p [] cs = []
-joined p (t ∷ ts) [] = []
-joined p (t ∷ ts) (x ∷ cs) = joined p ts cs ++ turned t (interpreted p x)
+abbrev pub fromColumns : ℕ → List Bool → List ℕ → List Bool
+fromColumns p [] cs = []
+fromColumns p (t ∷ ts) [] = []
+fromColumns p (t ∷ ts) (x ∷ cs) = fromColumns p ts cs ++ turned t (topZero p x)
 
-turned-long : (t : Bool) (p x : ℕ) → length (turned t (interpreted p x)) ≡ 4
+turned-long : (t : Bool) (p x : ℕ) → length (turned t (topZero p x)) ≡ 4
 turned-long false p x = refl
 turned-long true p x = refl
 
-joined-long : (p : ℕ) (ts : List Bool) (cs : List ℕ) → length ts ≡ length cs → length (joined p ts cs) ≡ 4 * length cs
-joined-long p [] [] e = refl
-joined-long p [] (x ∷ cs) e = absurd (omega arith)
-joined-long p (t ∷ ts) [] e = absurd (omega arith)
-joined-long p (t ∷ ts) (x ∷ cs) e =
-    omega (arith, length-append (joined p ts cs) (turned t (interpreted p x)), turned-long t p x, joined-long p ts cs (omega arith))
+columns-long : (p : ℕ) (ts : List Bool) (cs : List ℕ) → length ts ≡ length cs → length (fromColumns p ts cs) ≡ 4 * length cs
+columns-long p [] [] e = refl
+columns-long p [] (x ∷ cs) e = absurd (omega arith)
+columns-long p (t ∷ ts) [] e = absurd (omega arith)
+columns-long p (t ∷ ts) (x ∷ cs) e =
+    omega (arith, length-append (fromColumns p ts cs) (turned t (topZero p x)), turned-long t p x, columns-long p ts cs (omega arith))
 
-pub correlation-joined : (p : ℕ) (xs : List ℤ) (ts : List Bool) (cs : List ℕ) → length ts ≡ length cs → 4 * length cs ≤ length xs
-    → correlation (joined p ts cs) (take (4 * length cs) xs) ≡ correlation ts (columnSums xs p cs)
+pub correlation-columns : (p : ℕ) (xs : List ℤ) (ts : List Bool) (cs : List ℕ) → length ts ≡ length cs → 4 * length cs ≤ length xs
+    → correlation (fromColumns p ts cs) (take (4 * length cs) xs) ≡ correlation ts (columnSums xs p cs)
 unfolding columnSum correlation
-correlation-joined p xs [] [] e h = refl
-correlation-joined p xs [] (x ∷ cs) e h = absurd (omega arith)
-correlation-joined p xs (t ∷ ts) [] e h = absurd (omega arith)
-correlation-joined p xs (t ∷ ts) (x ∷ cs) e h =
+correlation-columns p xs [] [] e h = refl
+correlation-columns p xs [] (x ∷ cs) e h = absurd (omega arith)
+correlation-columns p xs (t ∷ ts) [] e h = absurd (omega arith)
+correlation-columns p xs (t ∷ ts) (x ∷ cs) e h =
     let n : ℕ = 4 * length cs in
     let g : 4 * suc (length cs) ≡ n + 4 = omega arith in
-    let l : length (joined p ts cs) ≡ length (take n xs) = omega (arith, joined-long p ts cs (omega arith), length-take n xs) in
+    let l : length (fromColumns p ts cs) ≡ length (take n xs) = omega (arith, columns-long p ts cs (omega arith), length-take n xs) in
     rw (g, take-add n 4 xs)
-    (correlation-append (joined p ts cs) (turned t (interpreted p x)) (take n xs) (take 4 (drop n xs)) l
-    ∙ ap₂ _+ℤ_ (correlation-joined p xs ts cs (omega arith) (omega arith)) (correlation-turned t (interpreted p x) (take 4 (drop n xs)))
+    (correlation-append (fromColumns p ts cs) (turned t (topZero p x)) (take n xs) (take 4 (drop n xs)) l
+    ∙ ap₂ _+ℤ_ (correlation-columns p xs ts cs (omega arith) (omega arith)) (correlation-turned t (topZero p x) (take 4 (drop n xs)))
     ∙ +ℤ-comm (correlation ts (columnSums xs p cs)) _)

@@ -12,9 +12,9 @@ use lib.ListN.{length}
 use Rattle.binary.specs.Words.{ones}
 use Rattle.binary.proofs.Xor.{two-cases, bit-lt}
 use Rattle.contest.specs.Words.{differ, one, distance}
-use Rattle.classes.specs.Codewords.{positions}
+use Rattle.classes.specs.Codewords.{inPositions}
 
-pub positions-long : (n w : ℕ) → length (positions n w) ≡ n
+pub positions-long : (n w : ℕ) → length (inPositions n w) ≡ n
 positions-long zero w = refl
 positions-long (suc n) w = ap suc (positions-long n w)
 
@@ -27,14 +27,14 @@ number : List Bool → ℕ
 number [] = 0
 number (b ∷ bs) = one b * 2 ^ length bs + number bs
 
-number-positions : (n w : ℕ) → number (positions n w) ≡ w % 2 ^ n
+number-positions : (n w : ℕ) → number (inPositions n w) ≡ w % 2 ^ n
 unfolding number
 number-positions zero w = omega arith
 number-positions (suc n) w =
-    ap₂ (λ (x y : ℕ). x * 2 ^ length (positions n w) + y) (one-bit (w / 2 ^ n % 2) (bit-lt (w / 2 ^ n))) (number-positions n w)
+    ap₂ (λ (x y : ℕ). x * 2 ^ length (inPositions n w) + y) (one-bit (w / 2 ^ n % 2) (bit-lt (w / 2 ^ n))) (number-positions n w)
     ∙ ap (λ (k : ℕ). w / 2 ^ n % 2 * 2 ^ k + w % 2 ^ n) (positions-long n w) ∙ sym (mod-pow-add w 1 n) ∙ ap (λ (k : ℕ). w % 2 ^ k) (omega arith)
 
-pub positions-injective : (n a b : ℕ) → a < 2 ^ n → b < 2 ^ n → positions n a ≡ positions n b → a ≡ b
+pub positions-injective : (n a b : ℕ) → a < 2 ^ n → b < 2 ^ n → inPositions n a ≡ inPositions n b → a ≡ b
 positions-injective n a b ha hb e =
     sym (mod-eq-of-lt ha) ∙ sym (number-positions n a) ∙ ap number e ∙ number-positions n b ∙ mod-eq-of-lt hb
 
@@ -54,7 +54,7 @@ one-differ =
     (two-cases (λ y. one (differ (eqb 0 1) (eqb y 1)) ≡ bitXor 0 y) refl refl)
     (two-cases (λ y. one (differ (eqb 1 1) (eqb y 1)) ≡ bitXor 1 y) refl refl)
 
-pub distance-positions : (n a b : ℕ) → distance (positions n a) (positions n b) ≡ ones n (bitXor a b)
+pub distance-positions : (n a b : ℕ) → distance (inPositions n a) (inPositions n b) ≡ ones n (bitXor a b)
 unfolding distance ones
 distance-positions zero a b = refl
 distance-positions (suc n) a b =

@@ -1,2 +1,3 @@
 pub mod Codewords
 pub mod Classes
+pub mod Cases

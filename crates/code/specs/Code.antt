@@ -8,9 +8,12 @@ use lib.ListN.{replicate}
 use Rattle.code.specs.Characters.{_⊕_, fourth, fifth, sixth, hexacodeword}
 use Rattle.code.specs.Array.{column, columns, bit, joined, total, parity, topRow, projection, interpreted}
 
--- "A message is 0 to 4,095", and a word has 24 positions.
+-- A message is 0 to 4,095. A word has 24 positions, and a reading a confidence for each of them.
 abbrev pub messages : ℕ
 messages = 4096
+
+abbrev pub positions : ℕ
+positions = 24
 
 abbrev pub words : ℕ
 words = 16777216

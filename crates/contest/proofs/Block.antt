@@ -13,9 +13,12 @@ use Rattle.signed.proofs.Parts.{ints, parts, parts-eq}
 use Rattle.contest.specs.Words.{odd}
 use Rattle.contest.specs.Readings.{correlation}
 use Rattle.contest.specs.Largest.{Best}
-use Rattle.contest.proofs.Loss.{loss, weight, level}
-use Rattle.contest.proofs.Signs.{At, State, Ranked, rank-same, rank-other}
-use Rattle.contest.proofs.Numbers.{val, bits-long, tops, tops-odd, val-tops, tops-val, val-half}
+use Rattle.contest.specs.Losses.{loss, weight}
+use Rattle.contest.proofs.Loss.{level}
+use Rattle.contest.specs.Numbers.{val, tops}
+use Rattle.contest.specs.Signs.{At, State}
+use Rattle.contest.proofs.Signs.{Ranked, rank-same, rank-other}
+use Rattle.contest.proofs.Numbers.{bits-long, tops-odd, val-tops, tops-val, val-half}
 
 -- f has, from i on, the correlations of the words of n + 1 bits of parity p
 module _ (f : ℕ → ℤ) (n i : ℕ) {fs : List ℤ} {p : Bool} {w v : List Bool} (long : length fs ≡ suc n) (R : Ranked fs p w v)

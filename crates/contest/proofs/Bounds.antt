@@ -6,13 +6,14 @@ use native.Mathlib.Omega.{arith}
 use native.Mathlib.Nat.{add-mul}
 use lib.IntN.{ℤ, pos, natAbs}
 use lib.ListN.{length, getD}
-use Rattle.signed.specs.Sign.{signed}
+use Rattle.signed.specs.Sign.{lo, signed}
 use Rattle.signed.specs.Within.{Within}
-use Rattle.signed.proofs.Parts.{lo, lo-neg, size-parts}
+use Rattle.signed.proofs.Parts.{lo-neg, size-parts}
 use Rattle.signed.proofs.Bounds.{size-signed, size-add, within-pos}
 use Rattle.contest.specs.Words.{differ, one, distance}
 use Rattle.contest.specs.Readings.{InRange, correlation}
-use Rattle.contest.proofs.Loss.{Aligned, none, more, loss, weight}
+use Rattle.contest.specs.Losses.{loss, weight}
+use Rattle.contest.proofs.Loss.{Aligned, none, more}
 
 -- a range, number by number
 pub range-at : (B : ℕ) (xs : List ℤ) → InRange B xs → (k : ℕ) → Within B (getD xs k (pos 0))

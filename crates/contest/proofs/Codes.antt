@@ -10,12 +10,9 @@ use lib.IntN.{ℤ, natAbs}
 use lib.ListN.{length}
 use Rattle.signed.specs.Sign.{sign}
 use Rattle.contest.specs.Words.{one, odd}
-use Rattle.contest.proofs.Loss.{weight}
+use Rattle.contest.specs.Losses.{weight}
+use Rattle.contest.specs.Figures.{signs, least, code}
 use Rattle.contest.proofs.Numbers.{one-small, one-differ}
-use Rattle.contest.proofs.Figures.{signs, least}
-
-abbrev pub code : ℤ → ℕ
-code f = 8 * natAbs f + one (sign f)
 
 abbrev pub codeSum : List ℤ → ℕ
 codeSum [] = 0

@@ -9,12 +9,14 @@ use native.Mathlib.Omega.{arith}
 use native.Mathlib.Decide.{ℕ-discrete}
 use lib.IntN.{ℤ, pos, _-ℤ_}
 use lib.Signed.{_≤ℤ_, _<ℤ_, ≤ℤ-refl}
-use Rattle.signed.proofs.Parts.{hi, lo, ints, sub-parts, le-or-lt}
+use Rattle.signed.specs.Sign.{hi, lo}
+use Rattle.signed.proofs.Parts.{ints, sub-parts, le-or-lt}
 use Rattle.contest.specs.Words.{Family}
 use Rattle.contest.specs.Readings.{Reading, scores}
 use Rattle.contest.specs.Largest.{Largest, Best}
 use Rattle.contest.specs.Answers.{Accepted, Tied, Answer, accepted, tied, Answers}
-use Rattle.contest.proofs.Loss.{loss, weight, level}
+use Rattle.contest.specs.Losses.{loss, weight}
+use Rattle.contest.proofs.Loss.{level}
 use Rattle.contest.proofs.Span.{Two, two-largest, behind, next-value}
 
 -- ---- from the two largest correlations

@@ -1,8 +1,8 @@
 -- The largest correlation among the words of one parity: all the sizes where the signs have that parity, and twice the least size less where
 -- they have the other.
-use mathlib.Core.Path.{_≡_, ap}
+use mathlib.Core.Path.{_≡_, refl, sym, ap, _∙_}
 use mathlib.Core.Logic.{_≢_}
-use mathlib.Core.Bool.{Bool}
+use mathlib.Core.Bool.{Bool, true, false, cond}
 use mathlib.Core.List.{List, [], _∷_}
 use Prim.Native.Nat.{ℕ, suc, _+_, _*_, _^_, _≤_, _<_, min}
 use native.Mathlib.Nat.{min-eq-left, min-eq-right}
@@ -11,22 +11,15 @@ use native.Mathlib.Decide.{decLt}
 use lib.IntN.{ℤ, pos, natAbs, _-ℤ_}
 use lib.ListN.{length}
 use Rattle.signed.specs.Sign.{sign}
-use Rattle.contest.specs.Words.{odd}
+use Rattle.contest.specs.Words.{differ, odd}
 use Rattle.contest.specs.Readings.{InRange, correlation}
-use Rattle.contest.proofs.Loss.{weight}
-use Rattle.contest.proofs.Signs.{State, empty, new-least, new-second, new-neither}
-use Rattle.contest.proofs.Numbers.{tops}
+use Rattle.contest.specs.Losses.{weight}
+use Rattle.contest.specs.Numbers.{tops}
+use Rattle.contest.specs.Signs.{State}
+use Rattle.contest.specs.Figures.{signs, least, reached}
+use Rattle.contest.proofs.Signs.{empty, new-least, new-second, new-neither}
 use Rattle.contest.proofs.Block.{best-same, best-other}
 use Rattle.contest.proofs.Runs.{Figure}
-
-abbrev pub signs : List ℤ → List Bool
-signs [] = []
-signs (f ∷ fs) = sign f ∷ signs fs
-
--- the least size of f and fs
-abbrev pub least : ℤ → List ℤ → ℕ
-least f [] = natAbs f
-least f (g ∷ fs) = min (natAbs f) (least g fs)
 
 -- ---- the figure
 
@@ -58,6 +51,9 @@ come B f [] r =
     rw (min-eq-left e) at (step f h (record { b = suc B; o = []; state = empty (suc B) [] }))
 come B f (g ∷ fs) r = step f (omega (arith, r .0 .within)) (come B g fs (r .1))
 
+apart : false ≡ true → ⊥
+apart e = let z : _≡_ {A = ℕ} 0 1 = cc in omega arith
+
 module _ (F : ℕ → ℤ) (n i B : ℕ) {p : Bool} (f : ℤ) (fs : List ℤ) (range : InRange B (f ∷ fs)) (long : length fs ≡ n) (two : 1 ≤ n)
     (is : (j : ℕ) → j < 2 ^ n → F (i + j) ≡ correlation (tops n p j) (f ∷ fs)) where
   pub figure-same : odd (signs (f ∷ fs)) ≡ p → Figure F i (i + 2 ^ n) (pos (weight (f ∷ fs)))
@@ -71,3 +67,16 @@ module _ (F : ℕ → ℤ) (n i B : ℕ) {p : Bool} (f : ℤ) (fs : List ℤ) (r
       let C = come B f fs range in
       let G = best-other F n i (C .state) (omega arith) (ap suc long) is d in
       record { at = _; largest = G .largest; is = G .best }
+
+-- either, as one formula
+module _ (F : ℕ → ℤ) (n i B : ℕ) (p : Bool) (f : ℤ) (fs : List ℤ) (range : InRange B (f ∷ fs)) (long : length fs ≡ n) (two : 1 ≤ n)
+    (is : (j : ℕ) → j < 2 ^ n → F (i + j) ≡ correlation (tops n p j) (f ∷ fs)) where
+  pub figure-reached : Figure F i (i + 2 ^ n) (reached p f fs)
+  figure-reached = go p (odd (signs (f ∷ fs))) refl refl
+    where
+      go : (q o : Bool) → q ≡ p → odd (signs (f ∷ fs)) ≡ o
+          → Figure F i (i + 2 ^ n) (cond (differ q o) (pos (weight (f ∷ fs)) -ℤ pos (2 * least f fs)) (pos (weight (f ∷ fs))))
+      go false false e o = figure-same F n i B f fs range long two is (o ∙ e)
+      go false true e o = figure-other F n i B f fs range long two is (λ d. apart (e ∙ d ∙ o))
+      go true false e o = figure-other F n i B f fs range long two is (λ d. apart (sym o ∙ sym d ∙ sym e))
+      go true true e o = figure-same F n i B f fs range long two is (o ∙ e)

@@ -8,14 +8,10 @@ use native.Mathlib.Decide.{ℕ-discrete}
 use lib.IntN.{ℤ}
 use lib.Signed.{_≤ℤ_}
 use Rattle.signed.proofs.Parts.{ints}
-use Rattle.contest.specs.Kept.{Seen, seen, values, lowest, Kept}
+use Rattle.contest.specs.Kept.{Seen, seen, values, lowest, Kept, run}
 use Rattle.contest.specs.Largest.{Best}
 use Rattle.contest.specs.declared.Keeper.{Keeper}
 use Rattle.contest.proofs.Keeping.{kept-most}
-
-abbrev pub run : (ℕ → ℤ) → ℕ → List Seen
-run f zero = []
-run f (suc n) = seen (f n) n ∷ run f n
 
 module _ (f : ℕ → ℤ) where
   run-has : (n k : ℕ) → k < n → List·Memᴰ (f k) (values (run f n))

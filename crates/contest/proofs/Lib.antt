@@ -13,3 +13,4 @@ pub mod Numbers
 pub mod Block
 pub mod Figures
 pub mod Codes
+pub mod Clean

@@ -7,9 +7,10 @@ use Prim.Native.Nat.{ℕ, _+_, _*_, _≤_}
 use native.Mathlib.Omega.{arith}
 use lib.IntN.{ℤ, natAbs, _-ℤ_}
 use lib.ListN.{length}
-use Rattle.signed.specs.Sign.{signed}
-use Rattle.signed.proofs.Parts.{hi, lo, size-parts, add-parts, parts}
+use Rattle.signed.specs.Sign.{hi, lo, signed}
+use Rattle.signed.proofs.Parts.{size-parts, add-parts, parts}
 use Rattle.contest.specs.Readings.{correlation, change}
+use Rattle.contest.specs.Losses.{loss, weight}
 
 -- two words and two readings of one length
 pub data Aligned : List Bool → List Bool → List ℤ → List ℤ → Type 0 where
@@ -25,16 +26,6 @@ align (b ∷ bs) [] xs ys p q r s = absurd (omega arith)
 align (b ∷ bs) (c ∷ cs) [] ys p q r s = absurd (omega arith)
 align (b ∷ bs) (c ∷ cs) (x ∷ xs) [] p q r s = absurd (omega arith)
 align (b ∷ bs) (c ∷ cs) (x ∷ xs) (y ∷ ys) p q r s = more (align bs cs xs ys {n = length bs} refl (omega arith) (omega arith) (omega arith))
-
--- what a reading says against a word, and all that it says
-abbrev pub loss : List Bool → List ℤ → ℕ
-loss [] xs = 0
-loss (b ∷ bs) [] = 0
-loss (b ∷ bs) (x ∷ xs) = lo (signed b x) + loss bs xs
-
-abbrev pub weight : List ℤ → ℕ
-weight [] = 0
-weight (x ∷ xs) = natAbs x + weight xs
 
 one-balance : (b : Bool) (x : ℤ) → natAbs x ≡ hi (signed b x) + lo (signed b x)
 one-balance false x = size-parts x

@@ -9,6 +9,7 @@ use native.Mathlib.Nat.{pow-suc}
 use lib.Dec.{eqb}
 use lib.ListN.{length}
 use Rattle.contest.specs.Words.{differ, one, odd}
+use Rattle.contest.specs.Numbers.{val, bits, tops}
 
 -- ---- one bit
 
@@ -39,14 +40,6 @@ bit-other true (suc zero) h d e = d refl
 bit-other true (suc (suc p)) h d e = absurd (omega arith)
 
 -- ---- a word
-
-abbrev pub val : List Bool → ℕ
-val [] = 0
-val (b ∷ bs) = 2 * val bs + one b
-
-abbrev pub bits : ℕ → ℕ → List Bool
-bits zero w = []
-bits (suc n) w = eqb (w % 2) 1 ∷ bits n (w / 2)
 
 pub bits-long : (n w : ℕ) → length (bits n w) ≡ n
 bits-long zero w = refl
@@ -80,9 +73,7 @@ val-small [] = omega arith
 val-small (false ∷ bs) = rw pow-suc (omega (arith, val-small bs))
 val-small (true ∷ bs) = rw pow-suc (omega (arith, val-small bs))
 
--- the word of n bits and one in front, of parity p
-abbrev pub tops : ℕ → Bool → ℕ → List Bool
-tops n p j = differ p (odd (bits n j)) ∷ bits n j
+-- ---- a word and its parity
 
 twice : (p q : Bool) → differ (differ p q) q ≡ p
 twice false false = refl

@@ -12,7 +12,8 @@ use Rattle.signed.proofs.Parts.{parts, parts-eq, ints, sub-parts}
 use Rattle.contest.specs.Words.{Family, distance}
 use Rattle.contest.specs.Readings.{Reading, scores}
 use Rattle.contest.specs.Answers.{Accepted}
-use Rattle.contest.proofs.Loss.{align, loss}
+use Rattle.contest.specs.Losses.{loss}
+use Rattle.contest.proofs.Loss.{align}
 use Rattle.contest.proofs.Bounds.{weight-range, correlation-weight, apart}
 use Rattle.contest.proofs.Decided.{at-level}
 

@@ -12,7 +12,8 @@ use Rattle.contest.specs.Words.{Family}
 use Rattle.contest.specs.Readings.{Reading, scores, change}
 use Rattle.contest.specs.Largest.{Largest}
 use Rattle.contest.specs.Answers.{Accepted, Answer, accepted, tied, Answers}
-use Rattle.contest.proofs.Loss.{Aligned, align, loss, shift}
+use Rattle.contest.specs.Losses.{loss}
+use Rattle.contest.proofs.Loss.{Aligned, align, shift}
 use Rattle.contest.proofs.Decided.{at-level, accepted-largest, decided}
 use Rattle.contest.proofs.Reserve.{margin, lead, reserve-positive}
 use Rattle.contest.proofs.Weaken.{move, enough}

@@ -7,11 +7,12 @@ use Prim.Native.Nat.{ℕ, suc, min, _+_, _-_, _≤_}
 use native.Mathlib.Omega.{arith}
 use lib.IntN.{ℤ, pos, negsuc, negℤ, natAbs, _-ℤ_}
 use lib.ListN.{length}
-use Rattle.signed.specs.Sign.{signed}
-use Rattle.signed.proofs.Parts.{hi, lo, hi-neg, lo-neg, one-part, parts}
+use Rattle.signed.specs.Sign.{hi, lo, signed}
+use Rattle.signed.proofs.Parts.{hi-neg, lo-neg, one-part, parts}
 use Rattle.contest.specs.Words.{differ}
 use Rattle.contest.specs.Readings.{InRange, change}
-use Rattle.contest.proofs.Loss.{Aligned, none, more, loss}
+use Rattle.contest.specs.Losses.{loss}
+use Rattle.contest.proofs.Loss.{Aligned, none, more}
 
 -- nearer to zero by k
 abbrev weaken : ℕ → ℤ → ℤ

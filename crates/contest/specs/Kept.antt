@@ -2,7 +2,7 @@
 use mathlib.Core.Path.{_≡_}
 use mathlib.Core.Bool.{cond}
 use mathlib.Core.List.{List, [], _∷_, _++_, List·Memᴰ}
-use Prim.Native.Nat.{ℕ}
+use Prim.Native.Nat.{ℕ, zero, suc}
 use lib.IntN.{ℤ, negsuc}
 use lib.Signed.{ltZ, _≤ℤ_, _<ℤ_}
 use Rattle.contest.specs.declared.Keeper.{Keeper}
@@ -43,3 +43,8 @@ abbrev pub taken : Keeper → ℤ → ℕ → Keeper
 taken t v p =
     cond (ltZ (t .best) v) (record { best = v; second = t .best; at = p })
     (cond (ltZ (t .second) v) (record { best = t .best; second = v; at = t .at }) t)
+
+-- the values of f from 0 up to n, seen in order, each at its number
+abbrev pub run : (ℕ → ℤ) → ℕ → List Seen
+run f zero = []
+run f (suc n) = seen (f n) n ∷ run f n

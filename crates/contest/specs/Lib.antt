@@ -3,3 +3,7 @@ pub mod Readings
 pub mod Largest
 pub mod Answers
 pub mod Kept
+pub mod Losses
+pub mod Numbers
+pub mod Signs
+pub mod Figures

@@ -28,6 +28,11 @@ correlation (b ∷ bs) (x ∷ xs) = signed b x +ℤ correlation bs xs
 abbrev pub scores : (ℕ → List Bool) → List ℤ → ℕ → ℤ
 scores word xs k = correlation (word k) xs
 
+-- a clean signal of a word: each confidence has size s and speaks for the word's bit
+abbrev pub clean : ℕ → List Bool → List ℤ
+clean s [] = []
+clean s (b ∷ bs) = signed b (pos s) ∷ clean s bs
+
 -- the size of a change: the sizes of the differences, added
 unfoldable pub change : List ℤ → List ℤ → ℕ
 change [] ys = 0

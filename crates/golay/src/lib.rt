@@ -4,7 +4,7 @@ ghost use mathlib.Core.List.{[], _∷_};
 ghost use Prim.Native.Nat.{_<_};
 ghost use lib.ListN.{length};
 ghost use Rattle.binary.specs.Words.{rowSum};
-ghost use Rattle.binary.specs.Words as words;
+ghost use Rattle.binary.specs.Words as binary;
 ghost use Rattle.code.specs.Code.{words, isCodeword, syndromeOf};
 ghost use Rattle.golay.specs.Refusals.{number};
 ghost use Rattle.golay.specs.Answers.{encodeAnswer, readAnswer, syndromeAnswer, distanceAnswer, writeBytesAnswer, readBytesAnswer};
@@ -33,6 +33,9 @@ use rows::COLUMN_4;
 use rows::COLUMN_5;
 use rows::COLUMN_6;
 use rows::MESSAGE_BITS;
+
+// A word's positions; a reading has a confidence for each.
+pub const POSITIONS: usize = 24;
 
 const MESSAGES: u32 = 4_096;
 
@@ -98,7 +101,8 @@ fn is_codeword(word: u32) -> bool
     syndrome_of(word) == 0
 }
 
-fn wide(byte: u8) -> u32
+// A byte, wide enough to be multiplied.
+pub fn wide(byte: u8) -> u32
     ensures { λ r. ⌜ (r ≡ byte) × (r < 256) ⌝ }
 {
     byte as u32
@@ -167,7 +171,7 @@ pub fn syndrome(word: u32) -> SyndromeAnswer
 
 // How many ones a number of 32 bits has: each turn takes the lowest one away.
 pub fn ones(number: u32) -> u32
-    ensures { λ r. ⌜ r ≡ words.ones 32 number ⌝ }
+    ensures { λ r. ⌜ r ≡ binary.ones 32 number ⌝ }
 {
     let mut count: u32 = 0;
     let mut left = number;

@@ -8,7 +8,7 @@ use Rattle.golay.specs.Answers.{Answer, accepted, refused}
 use Rattle.patterns.proofs.Patterns.{pattern-unique}
 use Rattle.hard.specs.Answers.{Correction}
 use Rattle.hard.specs.Candidates.{Candidates}
-use Rattle.hard.specs.Calls.{correctRule, Corrects, candidatesRule, Held, WritesCandidates}
+use Rattle.hard.specs.Calls.{correctRule, Corrects, candidatesRule, SlotsHold, WritesCandidates}
 use Rattle.hard.proofs.Ascending.{ascending-same}
 
 pub correct-decided : {word : ℕ} {a b : Answer Correction} → Corrects word a → Corrects word b → a ≡ b
@@ -19,7 +19,7 @@ candidates-same {xs = xs} {ys = ys} p q =
     ascending-same xs ys (p .ascending) (q .ascending) (λ c m. q .every c (p .each c m)) (λ c m. p .every c (q .each c m))
 
 held-same :
-    (word : ℕ) (answer : Answer (Unit {0})) (before x y : List ℕ) → Held word answer before x → Held word answer before y → x ≡ y
+    (word : ℕ) (answer : Answer (Unit {0})) (before x y : List ℕ) → SlotsHold word answer before x → SlotsHold word answer before y → x ≡ y
 held-same word (accepted t) before x y p q = candidates-same p q
 held-same word (refused n) before x y p q = p ∙ sym q
 
@@ -30,4 +30,4 @@ module _ {word : ℕ} {before x y : List ℕ} {a b : Answer (Unit {0})} (p : Wri
 
   pub slots-decided : x ≡ y
   slots-decided =
-      held-same word b before x y (subst (λ (r : Answer (Unit {0})). Held word r before x) candidates-decided (p .slots)) (q .slots)
+      held-same word b before x y (subst (λ (r : Answer (Unit {0})). SlotsHold word r before x) candidates-decided (p .slots)) (q .slots)

@@ -20,7 +20,7 @@ use Rattle.hard.specs.Candidates.{Candidates, AtFour}
 use Rattle.hard.proofs.Arrange.{put, isSet, arrange, put-length, at-four-lt, arrange-candidates}
 
 -- the slots before `first` and from `end` on are done: what leads below place i goes between
-pub record Filled (word s : ℕ) (slots : List ℕ) (first end i : ℕ) : Type 0 where
+pub record FilledFrom (word s : ℕ) (slots : List ℕ) (first end i : ℕ) : Type 0 where
   pub bound : i ≤ 24
   pub size : length slots ≡ 6
   pub room : end ≤ 6
@@ -45,14 +45,14 @@ put-none : (b d : Bool) (c : ℕ) (cs : List ℕ) → T (not b) → put b d c cs
 put-none true d c cs t = absurd t
 put-none false d c cs t = refl
 
-module _ (word s : ℕ) (slots : List ℕ) (first end n : ℕ) (v : Filled word s slots first end (suc n)) where
+module _ (word s : ℕ) (slots : List ℕ) (first end n : ℕ) (v : FilledFrom word s slots first end (suc n)) where
   abbrev c : ℕ
   c = bitXor word (four s n)
 
   abbrev cs : List ℕ
   cs = arrange word s n
 
-  skip : T (not (leads s n)) → Filled word s slots first end n
+  skip : T (not (leads s n)) → FilledFrom word s slots first end n
   skip t =
       let e : arrange word s (suc n) ≡ cs = put-none (leads s n) (isSet word n) c cs t in
       record {
@@ -66,7 +66,7 @@ module _ (word s : ℕ) (slots : List ℕ) (first end n : ℕ) (v : Filled word 
   leads-gap : T (leads s n) → first + 1 + length cs ≡ end
   leads-gap t = omega (arith, v .gap, put-length (leads s n) (isSet word n) c cs, one-true (leads s n) t)
 
-  front : T (leads s n) → T (isSet word n) → Filled word s (set slots first c) (first + 1) end n
+  front : T (leads s n) → T (isSet word n) → FilledFrom word s (set slots first c) (first + 1) end n
   front t u =
       let g = leads-gap t in
       let l : first < length slots = omega (arith, v .size, v .room) in
@@ -84,7 +84,7 @@ module _ (word s : ℕ) (slots : List ℕ) (first end n : ℕ) (v : Filled word 
             ∙ v .parts;
       }
 
-  back : (last : ℕ) → end ≡ suc last → T (leads s n) → T (not (isSet word n)) → Filled word s (set slots last c) first last n
+  back : (last : ℕ) → end ≡ suc last → T (leads s n) → T (not (isSet word n)) → FilledFrom word s (set slots last c) first last n
   back last e t u =
       let g = leads-gap t in
       let l : last < length slots = omega (arith, v .size, v .room) in
@@ -105,7 +105,7 @@ module _ (word s : ℕ) (slots : List ℕ) (first end n : ℕ) (v : Filled word 
 
 -- ---- in the terms of the code: place n is worth 1 shifted by n, and f is the pattern that it reads
 
-module _ {word s : ℕ} {slots : List ℕ} {first end i f : ℕ} (a : AtFour word s) (v : Filled word s slots first end i) (pos : 0 < i)
+module _ {word s : ℕ} {slots : List ℕ} {first end i f : ℕ} (a : AtFour word s) (v : FilledFrom word s slots first end i) (pos : 0 < i)
     (r : IsPattern (bitXor s (getD syndromeRows (i - 1) 0)) f) where
   abbrev n : ℕ
   n = i - 1
@@ -113,8 +113,8 @@ module _ {word s : ℕ} {slots : List ℕ} {first end i f : ℕ} (a : AtFour wor
   abbrev place : ℕ
   place = 1 * 2 ^ n % 2 ^ 32
 
-  this : Filled word s slots first end (suc n)
-  this = subst (Filled word s slots first end) (let e : i ≡ suc (i - 1) = omega arith in e) v
+  this : FilledFrom word s slots first end (suc n)
+  this = subst (FilledFrom word s slots first end) (let e : i ≡ suc (i - 1) = omega arith in e) v
 
   place-lt : n < 24
   place-lt = omega (arith, v .bound)
@@ -137,25 +137,25 @@ module _ {word s : ℕ} {slots : List ℕ} {first end i f : ℕ} (a : AtFour wor
   pub turn-room : f < place → first < end
   turn-room l = omega (arith, leads-gap word s slots first end n this (leads-read l))
 
-  pub turn-skip : place ≤ f → Filled word s slots first end n
+  pub turn-skip : place ≤ f → FilledFrom word s slots first end n
   turn-skip l =
       skip word s slots first end n this
       (not-T (leads s n) (λ t. let e : ⊥ = omega (arith, ltb→lt (rest s n) (2 ^ n) t, rest-read, place-worth) in e))
 
-  pub turn-front : f < place → word / 2 ^ n % 2 ≡ 1 → Filled word s (set slots first (bitXor word (place + f))) (first + 1) end n
+  pub turn-front : f < place → word / 2 ^ n % 2 ≡ 1 → FilledFrom word s (set slots first (bitXor word (place + f))) (first + 1) end n
   turn-front l o =
-      subst (λ (x : ℕ). Filled word s (set slots first x) (first + 1) end n) candidate-read
+      subst (λ (x : ℕ). FilledFrom word s (set slots first x) (first + 1) end n) candidate-read
       (front word s slots first end n this (leads-read l) (rw o tt))
 
-  pub turn-back : f < place → (word / 2 ^ n % 2 ≡ 1 → ⊥) → Filled word s (set slots (end - 1) (bitXor word (place + f))) first (end - 1) n
+  pub turn-back : f < place → (word / 2 ^ n % 2 ≡ 1 → ⊥) → FilledFrom word s (set slots (end - 1) (bitXor word (place + f))) first (end - 1) n
   turn-back l o =
-      subst (λ (x : ℕ). Filled word s (set slots (end - 1) x) first (end - 1) n) candidate-read
+      subst (λ (x : ℕ). FilledFrom word s (set slots (end - 1) x) first (end - 1) n) candidate-read
       (back word s slots first end n this (end - 1) (omega (arith, turn-room l)) (leads-read l)
       (not-T (isSet word n) (λ t. o (eqb→eq (word / 2 ^ n % 2) 1 t))))
 
 -- ---- the first place and the last
 
-pub begun : (word s : ℕ) (slots : List ℕ) → AtFour word s → length slots ≡ 6 → Filled word s slots 0 6 24
+pub begun : (word s : ℕ) (slots : List ℕ) → AtFour word s → length slots ≡ 6 → FilledFrom word s slots 0 6 24
 begun word s slots a l = record {
   bound = le-refl 24;
   size = l;
@@ -164,7 +164,7 @@ begun word s slots a l = record {
   parts = rw (drop-of-length-le slots {i = 6} (omega arith)) (append-nil (arrange word s 24));
 }
 
-module _ {word s : ℕ} {slots : List ℕ} {first end i : ℕ} (v : Filled word s slots first end i) (z : i ≡ 0) where
+module _ {word s : ℕ} {slots : List ℕ} {first end i : ℕ} (v : FilledFrom word s slots first end i) (z : i ≡ 0) where
   met : first ≡ end
   met = sym (add-zero first) ∙ ap (λ (j : ℕ). first + length (arrange word s j)) (sym z) ∙ v .gap
 

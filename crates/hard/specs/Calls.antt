@@ -33,12 +33,12 @@ candidatesRule word pattern slots =
     (refuse WordAbove (wordAbove word) (refuse NotDistanceFour (not (eqb (ones 24 pattern) 4)) (accepted tt)))
 
 -- what the slots hold after the call: the candidates, or on a refusal what they held before
-abbrev pub Held : {A : Type 0} → ℕ → Answer A → List ℕ → List ℕ → Type 0
-Held word (accepted x) before after = Candidates word after
-Held word (refused n) before after = after ≡ before
+abbrev pub SlotsHold : {A : Type 0} → ℕ → Answer A → List ℕ → List ℕ → Type 0
+SlotsHold word (accepted x) before after = Candidates word after
+SlotsHold word (refused n) before after = after ≡ before
 
 pub record WritesCandidates (word : ℕ) (before : List ℕ) (answer : Answer (Unit {0})) (after : List ℕ) : Type 0 where
   pub pattern : ℕ
   pub rule : IsPattern (syndromeOf word) pattern
   pub answered : answer ≡ candidatesRule word pattern before
-  pub slots : Held word answer before after
+  pub slots : SlotsHold word answer before after

@@ -17,7 +17,7 @@ use Rattle.golay.specs.Answers.{Answer, accepted, refused}
 use Rattle.patterns.proofs.Patterns.{pattern-unique}
 use Rattle.hard.specs.Answers.{Correction}
 use Rattle.hard.specs.Candidates.{_∈_, Ascending, Candidate, Candidates, AtFour}
-use Rattle.hard.specs.Calls.{Corrects, WritesCandidates, Held}
+use Rattle.hard.specs.Calls.{Corrects, WritesCandidates, SlotsHold}
 use Rattle.hard.proofs.Rules.{correct-nearer, candidates-four}
 use Rattle.quick.specs.Quick.{costOf, merits, Cheapest, TwoCheapest, Chosen, alone, shared}
 
@@ -45,7 +45,7 @@ pub four-candidates :
 four-candidates {word} {before} {after} {answer} f l w =
     let o : ones 24 (w .pattern) ≡ 4 = ap (ones 24) (pattern-unique (w .rule) (f .rule)) ∙ f .four in
     let e : answer ≡ accepted tt = w .answered ∙ candidates-four word (w .pattern) before l (f .within) o in
-    subst (λ (a : Answer (Unit {0})). Held word a before after) e (w .slots)
+    subst (λ (a : Answer (Unit {0})). SlotsHold word a before after) e (w .slots)
 
 -- ---- places of a list
 

@@ -8,6 +8,7 @@ use lib.ListN.{length, getD}
 use lib.Bits.{bitXor}
 use Rattle.signed.specs.Sign.{sign}
 use Rattle.contest.specs.Words.{one}
+use Rattle.code.specs.Code.{positions}
 use Rattle.golay.specs.declared.kinds.Refusal.the-variants.{WrongLength, MostNegative, Tied}
 use Rattle.golay.specs.Refusals.{number}
 use Rattle.golay.specs.Answers.{Answer, accepted, refused, Refuse}
@@ -71,4 +72,4 @@ pub record Decides (xs : List ℤ) (answer : Answer ℕ) : Type 0 where
   pub follows : Follows (signWord xs) xs correction answer
 
 unfoldable pub QuickRule : List ℤ → Answer ℕ → Type 0
-QuickRule xs = Refuse WrongLength (wrongLength 24 xs) (Refuse MostNegative (mostNegative xs) (Decides xs))
+QuickRule xs = Refuse WrongLength (wrongLength positions xs) (Refuse MostNegative (mostNegative xs) (Decides xs))

@@ -8,7 +8,7 @@ ghost use Rattle.signed.specs.Sign.{sign};
 ghost use Rattle.signed.specs.Within.{Within};
 ghost use Rattle.contest.specs.Words.{one};
 ghost use Rattle.contest.specs.Largest.{Best};
-ghost use Rattle.code.specs.Code.{words, syndromeOf};
+ghost use Rattle.code.specs.Code.{positions, words, syndromeOf};
 ghost use Rattle.hard.specs.Candidates.{AtFour};
 ghost use Rattle.quick.specs.Quick.{quickAnswer, signWord, merits, Chosen, QuickRule};
 ghost use Rattle.quick.specs.Quick as rule;
@@ -16,10 +16,14 @@ ghost use Rattle.quick.specs.Quick as rule;
 pub mod kinds;
 
 use contest::Keeper;
+use golay::POSITIONS;
 use golay::kinds::Codeword;
 use golay::kinds::Refusal;
 use hard::kinds::CorrectAnswer;
 use kinds::QuickAnswer;
+
+// How far the first position stands from the last.
+const LAST: usize = POSITIONS - 1;
 
 // 1 for a negative confidence.
 fn sign_bit(reading: &[i32], i: usize) -> u32
@@ -34,12 +38,12 @@ fn sign_bit(reading: &[i32], i: usize) -> u32
 
 // The signs as a word, position 1 first.
 fn sign_word(reading: &[i32]) -> u32
-    requires { ⌜ length (now reading) ≡ 24 ⌝ }
+    requires { ⌜ length (now reading) ≡ positions ⌝ }
     ensures { λ r. ⌜ (r ≡ signWord (now (reading .entry))) × (r < words) ⌝ }
 {
     let mut word: u32 = 0;
     let mut i: usize = 0;
-    while i < 24 {
+    while i < POSITIONS {
         word = 2 * word + sign_bit(reading, i);
         i += 1;
     }
@@ -48,10 +52,10 @@ fn sign_word(reading: &[i32]) -> u32
 
 // The size of the confidence at i where the error has a one there, else 0.
 fn at_stake(error: u32, reading: &[i32], i: usize) -> u64
-    requires { ⌜ i < 24 ⌝ }
-    ensures { λ r. ⌜ (r ≡ error / 2 ^ (23 - i) % 2 * natAbs (getD (now (reading .entry)) i (pos 0))) × (r ≤ 2147483648) ⌝ }
+    requires { ⌜ i < positions ⌝ }
+    ensures { λ r. ⌜ (r ≡ error / 2 ^ (positions - 1 - i) % 2 * natAbs (getD (now (reading .entry)) i (pos 0))) × (r ≤ 2147483648) ⌝ }
 {
-    let shift = 23 - i;
+    let shift = LAST - i;
     if (error >> shift) % 2 == 1 {
         signed::size(signed::widened(reading, i))
     } else {
@@ -61,12 +65,12 @@ fn at_stake(error: u32, reading: &[i32], i: usize) -> u64
 
 // What an error costs.
 fn cost(error: u32, reading: &[i32]) -> u64
-    requires { ⌜ length (now reading) ≡ 24 ⌝ }
+    requires { ⌜ length (now reading) ≡ positions ⌝ }
     ensures { λ r. ⌜ (r ≡ rule.cost error (now (reading .entry))) × (r ≤ 51539607552) ⌝ }
 {
     let mut sum: u64 = 0;
     let mut i: usize = 0;
-    while i < 24 {
+    while i < POSITIONS {
         sum += at_stake(error, reading, i);
         i += 1;
     }
@@ -75,7 +79,7 @@ fn cost(error: u32, reading: &[i32]) -> u64
 
 // A cost, negated: the cheapest has the largest.
 fn merit(error: u32, reading: &[i32]) -> i64
-    requires { ⌜ length (now reading) ≡ 24 ⌝ }
+    requires { ⌜ length (now reading) ≡ positions ⌝ }
     ensures { λ r. ⌜ r ≡ negℤ (pos (rule.cost error (now (reading .entry)))) ⌝ }
     ensures { λ r. ⌜ Within 51539607552 r ⌝ }
 {
@@ -84,7 +88,7 @@ fn merit(error: u32, reading: &[i32]) -> i64
 
 // The two largest merits of six candidates, and where the largest is.
 fn cheapest(word: u32, slots: &[u32], reading: &[i32]) -> Keeper
-    requires { ⌜ (length (now reading) ≡ 24) × (length (now slots) ≡ 6) ⌝ }
+    requires { ⌜ (length (now reading) ≡ positions) × (length (now slots) ≡ 6) ⌝ }
     ensures { λ r. ⌜ Best (merits word (now (reading .entry)) (now (slots .entry))) 0 6 (r .best) (r .second) (r .at) ⌝ }
 {
     let mut kept = Keeper::first(merit(word ^ slots[0], reading), 0);
@@ -98,7 +102,7 @@ fn cheapest(word: u32, slots: &[u32], reading: &[i32]) -> Keeper
 
 // The candidate that costs least, for a word that correction refuses. Refuses 6.
 fn chosen(word: u32, reading: &[i32]) -> QuickAnswer
-    requires { ⌜ (length (now reading) ≡ 24) × (word < words) ⌝ }
+    requires { ⌜ (length (now reading) ≡ positions) × (word < words) ⌝ }
     requires { ⌜ AtFour word (syndromeOf word) ⌝ }
     ensures { λ r. ⌜ Chosen word (now (reading .entry)) (quickAnswer r) ⌝ }
 {
@@ -118,7 +122,7 @@ fn chosen(word: u32, reading: &[i32]) -> QuickAnswer
 pub fn quick(reading: &[i32]) -> QuickAnswer
     ensures { λ r. ⌜ QuickRule (now (reading .entry)) (quickAnswer r) ⌝ }
 {
-    if reading.len() != 24 {
+    if reading.len() != POSITIONS {
         return QuickAnswer::Refused(Refusal::WrongLength);
     }
     if reading::most_negative(reading) {

@@ -11,7 +11,8 @@ use lib.IntN.{ℤ}
 use lib.ListN.{length, getD, drop, length-append, length-drop}
 use lib.Seq.{getD-drop, drop-drop, drop-append-le}
 use borrow.Author.Tests.{le-leb, lt-leb, leb-true, eq-eqb, ne-eqb}
-use Rattle.records.specs.Records.{isMark, readingLength, recordLength, confidencesOf, Standing, ended, stopped, whole, standing, standsAt, nextFrom, readingOf}
+use Rattle.code.specs.Code.{positions}
+use Rattle.records.specs.Records.{isMark, recordLength, confidencesOf, Standing, ended, stopped, whole, standing, standsAt, nextFrom, readingOf}
 use Rattle.records.proofs.Readings.{confidences-front}
 
 -- by the count of the bytes that are left: none, one, two and more
@@ -31,7 +32,7 @@ pub standing-two :
     → 2 ≤ length left
     → standing left
     ≡ cond (isMark (getD left 0 0) (getD left 1 0))
-    (cond (leb recordLength (length left)) (whole (confidencesOf readingLength (drop 2 left))) (stopped 10))
+    (cond (leb recordLength (length left)) (whole (confidencesOf positions (drop 2 left))) (stopped 10))
     (stopped 9)
 unfolding standing
 standing-two [] h = let e : ⊥ = omega arith in absurd e
@@ -50,7 +51,7 @@ module _ (bytes : List ℕ) (at : ℕ) where
     at-two :
         standsAt bytes at
         ≡ cond (isMark (getD bytes at 0) (getD bytes (at + 1) 0))
-        (cond (leb recordLength (length bytes - at)) (whole (confidencesOf readingLength (drop (at + 2) bytes))) (stopped 10))
+        (cond (leb recordLength (length bytes - at)) (whole (confidencesOf positions (drop (at + 2) bytes))) (stopped 10))
         (stopped 9)
     at-two = simp (getD-drop, add-zero, length-drop, drop-drop) at (standing-two (drop at bytes) (simp length-drop two))
 
@@ -66,7 +67,7 @@ module _ (bytes : List ℕ) (at : ℕ) where
         at-short h =
             rw (at-two, eq-eqb (getD bytes at 0) 0x49 a, eq-eqb (getD bytes (at + 1) 0) 0x43 b, lt-leb recordLength (length bytes - at) h)
 
-        pub at-whole : recordLength ≤ length bytes - at → standsAt bytes at ≡ whole (confidencesOf readingLength (drop (at + 2) bytes))
+        pub at-whole : recordLength ≤ length bytes - at → standsAt bytes at ≡ whole (confidencesOf positions (drop (at + 2) bytes))
         at-whole h =
             rw (at-two, eq-eqb (getD bytes at 0) 0x49 a, eq-eqb (getD bytes (at + 1) 0) 0x43 b, le-leb recordLength (length bytes - at) h)
 
@@ -80,7 +81,7 @@ standing-front (a ∷ b ∷ front) rest h =
     let near : leb recordLength (2 + length front) ≡ true = le-leb recordLength (2 + length front) (omega arith) in
     let far : leb recordLength (2 + length (front ++ rest)) ≡ true =
     le-leb recordLength (2 + length (front ++ rest)) (simp length-append (omega arith)) in
-    rw (near, far, confidences-front readingLength front rest (omega arith))
+    rw (near, far, confidences-front positions front rest (omega arith))
 
 -- so what stands in a piece of a capture stands in the capture
 pub stands-front : (bytes rest : List ℕ) (at : ℕ) → at + recordLength ≤ length bytes → standsAt (bytes ++ rest) at ≡ standsAt bytes at
@@ -100,7 +101,7 @@ ended-none (a ∷ []) e = never (cc)
 ended-none (a ∷ b ∷ rest) e = cases (isMark a b) (leb recordLength (2 + length rest)) e
   where
     cases : (marked long : Bool)
-        → cond marked (cond long (whole (confidencesOf readingLength rest)) (stopped 10)) (stopped 9) ≡ ended
+        → cond marked (cond long (whole (confidencesOf positions rest)) (stopped 10)) (stopped 9) ≡ ended
         → length (a ∷ b ∷ rest) ≡ 0
     cases true true e = never (cc)
     cases true false e = never (cc)
@@ -110,15 +111,15 @@ ended-none (a ∷ b ∷ rest) e = cases (isMark a b) (leb recordLength (2 + leng
 pub whole-known :
     (left : List ℕ) {reading : List ℤ}
     → standing left ≡ whole reading
-    → (recordLength ≤ length left) × (reading ≡ confidencesOf readingLength (drop 2 left))
+    → (recordLength ≤ length left) × (reading ≡ confidencesOf positions (drop 2 left))
 unfolding standing
 whole-known [] e = never (cc)
 whole-known (a ∷ []) e = never (cc)
 whole-known (a ∷ b ∷ rest) {reading} e = cases (isMark a b) (leb recordLength (2 + length rest)) refl e
   where
     cases : (marked long : Bool) → leb recordLength (2 + length rest) ≡ long
-        → cond marked (cond long (whole (confidencesOf readingLength rest)) (stopped 10)) (stopped 9) ≡ whole reading
-        → (recordLength ≤ length (a ∷ b ∷ rest)) × (reading ≡ confidencesOf readingLength rest)
+        → cond marked (cond long (whole (confidencesOf positions rest)) (stopped 10)) (stopped 9) ≡ whole reading
+        → (recordLength ≤ length (a ∷ b ∷ rest)) × (reading ≡ confidencesOf positions rest)
     cases true true p e = (omega (arith, leb-true recordLength (2 + length rest) p), cc)
     cases true false p e = never (cc)
     cases false long p e = never (cc)
@@ -150,7 +151,7 @@ whole-room bytes at e =
 pub whole-reading :
     (bytes : List ℕ) (at : ℕ) {next : ℕ}
     → nextFrom at (standsAt bytes at) ≡ whole next
-    → readingOf (standsAt bytes at) ≡ confidencesOf readingLength (drop (at + 2) bytes)
+    → readingOf (standsAt bytes at) ≡ confidencesOf positions (drop (at + 2) bytes)
 whole-reading bytes at e =
     let k = whole-known (drop at bytes) (next-whole at (standsAt bytes at) e .0) in
-    k .1 ∙ ap (confidencesOf readingLength) (drop-drop 2 at bytes)
+    k .1 ∙ ap (confidencesOf positions) (drop-drop 2 at bytes)

@@ -5,6 +5,7 @@ use Prim.Native.Nat.{ℕ, zero, suc, _+_, _^_}
 use lib.Dec.{leb, ltb, eqb}
 use lib.IntN.{ℤ, pos, _-ℤ_}
 use lib.ListN.{length, take, drop, replicate}
+use Rattle.code.specs.Code.{positions}
 use Rattle.golay.specs.Refusals.{number}
 use Rattle.golay.specs.Bytes.{wordOf}
 use Rattle.golay.specs.declared.kinds.Refusal.the-variants.{NoMark, CutShort}
@@ -16,9 +17,6 @@ abbrev pub isMark : ℕ → ℕ → Bool
 isMark a b = eqb a 0x49 && eqb b 0x43
 
 -- "then 24 confidences of four bytes .. : 98 bytes"
-abbrev pub readingLength : ℕ
-readingLength = 24
-
 abbrev pub recordLength : ℕ
 recordLength = 98
 
@@ -47,7 +45,7 @@ standing [] = ended
 standing (a ∷ []) = stopped (number CutShort)
 standing (a ∷ b ∷ rest) =
     cond (isMark a b)
-    (cond (leb recordLength (2 + length rest)) (whole (confidencesOf readingLength rest)) (stopped (number CutShort)))
+    (cond (leb recordLength (2 + length rest)) (whole (confidencesOf positions rest)) (stopped (number CutShort)))
     (stopped (number NoMark))
 
 -- what stands at a place of some bytes; past their end nothing is left
@@ -62,8 +60,8 @@ nextFrom at (whole x) = whole (at + recordLength)
 
 -- the confidences of a whole record; zeros where none stands
 abbrev pub readingOf : Standing (List ℤ) → List ℤ
-readingOf ended = replicate readingLength (pos 0)
-readingOf (stopped n) = replicate readingLength (pos 0)
+readingOf ended = replicate positions (pos 0)
+readingOf (stopped n) = replicate positions (pos 0)
 readingOf (whole reading) = reading
 
 -- number and values for every case of the call's answer

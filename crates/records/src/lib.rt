@@ -2,11 +2,13 @@
 ghost use mathlib.Core.Path.{_≡_};
 ghost use Prim.Native.Nat.{_+_, _≤_, _<_};
 ghost use lib.ListN.{length, drop};
-ghost use Rattle.records.specs.Records.{twosComplement, confidenceOf, confidencesOf, readingLength, standsAt, nextFrom, readingOf, stepAnswer};
+ghost use Rattle.code.specs.Code.{positions};
+ghost use Rattle.records.specs.Records.{twosComplement, confidenceOf, confidencesOf, standsAt, nextFrom, readingOf, stepAnswer};
 
 pub mod kinds;
 
 use golay::kinds::Refusal;
+use golay::wide;
 use kinds::Step;
 
 pub const RECORD: usize = 98;
@@ -35,12 +37,6 @@ pub fn step(bytes: &[u8], at: usize) -> Step
     Step::Stopped(Refusal::CutShort)
 }
 
-fn wide(byte: u8) -> u32
-    ensures { λ r. ⌜ (r ≡ byte) × (r < 256) ⌝ }
-{
-    byte as u32
-}
-
 // An i32 that holds the bits of a u32.
 fn twos_complement(word: u32) -> i32
     ensures { λ r. ⌜ r ≡ twosComplement word ⌝ }
@@ -67,7 +63,7 @@ fn confidence(bytes: &[u8], from: usize) -> i32
 // The 24 confidences from a place on.
 fn reading(bytes: &[u8], from: usize) -> [i32; 24]
     requires { ⌜ from + 96 ≤ length (now bytes) ⌝ }
-    ensures { λ r. ⌜ r ≡ confidencesOf readingLength (drop from (now (bytes .entry))) ⌝ }
+    ensures { λ r. ⌜ r ≡ confidencesOf positions (drop from (now (bytes .entry))) ⌝ }
 {
     let mut made = [0i32; 24];
     let mut i = 0;

@@ -10,9 +10,9 @@ use lib.Signed.{mag, ltZ, leZ, natAbs-le, _≤ℤ_, _<ℤ_}
 use mir.Syntax.{Width, w64}
 use mir.Val.{SFits, hbits, toZ, ofZ}
 use mir.Facts.{toZ-ofZ, toZ-pos}
-use Rattle.signed.specs.Sign.{sign}
+use Rattle.signed.specs.Sign.{sign, hi, lo}
 use Rattle.signed.specs.Within.{Within}
-use Rattle.signed.proofs.Parts.{hi, lo, size-parts, lt-true, lt-false, le-true, le-false, ints, parts}
+use Rattle.signed.proofs.Parts.{size-parts, lt-true, lt-false, le-true, le-false, ints, parts}
 use Rattle.signed.proofs.Bounds.{within-neg, within-add, within-sub}
 
 -- ---- what a width holds

@@ -9,14 +9,7 @@ use native.Mathlib.Decide.{decLe}
 use lib.Dec.{T, ltb, ltb→lt, nltb→le, leb→le, nleb→lt, le→leb, lt→ltb}
 use lib.IntN.{ℤ, pos, negsuc, negℤ, natAbs, subℕ, _+ℤ_, _-ℤ_, _*ℤ_}
 use lib.Signed.{ltZ, leZ, leZ-yes, ltZ-yes, ltZ-no, _≤ℤ_, _<ℤ_}
-
-abbrev pub hi : ℤ → ℕ
-hi (pos n) = n
-hi (negsuc n) = 0
-
-abbrev pub lo : ℤ → ℕ
-lo (pos n) = 0
-lo (negsuc n) = suc n
+use Rattle.signed.specs.Sign.{hi, lo}
 
 pub one-part : (z : ℤ) → min (hi z) (lo z) ≡ 0
 one-part (pos n) = omega arith

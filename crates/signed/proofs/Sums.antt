@@ -5,7 +5,8 @@ use Prim.Native.Nat.{ℕ, _+_, _≤_, _<_}
 use native.Mathlib.Omega.{arith}
 use lib.IntN.{ℤ, pos, negℤ, _+ℤ_, _-ℤ_}
 use lib.Signed.{_≤ℤ_, _<ℤ_}
-use Rattle.signed.proofs.Parts.{hi, lo, hi-neg, lo-neg, add-parts, sub-parts, ints}
+use Rattle.signed.specs.Sign.{hi, lo}
+use Rattle.signed.proofs.Parts.{hi-neg, lo-neg, add-parts, sub-parts, ints}
 
 infixl 6 _⊕_ _⊖_
 pub data Sum : Type 0 where

@@ -2,7 +2,7 @@
 ghost use mathlib.Core.Path.{_≡_};
 ghost use lib.IntN.{pos, natAbs};
 ghost use lib.ListN.{getD};
-ghost use Rattle.signed.specs.Sign.{sign, signed};
+ghost use Rattle.signed.specs.Sign.{sign};
 ghost use Rattle.signed.specs.Within.{Within};
 
 // The size. Of the most negative number the opposite is no i64, so it is taken one nearer to zero.
@@ -28,13 +28,4 @@ pub fn widened(x: &[i32], i: usize) -> i64
     ensures { λ r. ⌜ Within 2147483648 r ⌝ }
 {
     if i < x.len() { x[i] as i64 } else { 0 }
-}
-
-// Negated where the bit is 1.
-pub fn signed_by(bit: bool, x: i32) -> i64
-    ensures { λ r. ⌜ r ≡ signed bit x ⌝ }
-    ensures { λ r. ⌜ Within 2147483648 r ⌝ }
-{
-    let v = x as i64;
-    if bit { -v } else { v }
 }

@@ -15,7 +15,7 @@ use Rattle.contest.specs.Kept.{Seen, seen, lowest, Kept, taken}
 use Rattle.contest.specs.Largest.{Best}
 use Rattle.contest.specs.declared.Keeper.{Keeper}
 use Rattle.contest.proofs.Keeping.{keep-first}
-use Rattle.contest.proofs.KeptSpan.{run, kept-best}
+use Rattle.contest.proofs.KeptSpan.{kept-best}
 use Rattle.soft.specs.Details.{far}
 use Rattle.soft.specs.Figures.{KeptUpTo}
 

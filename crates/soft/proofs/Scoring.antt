@@ -17,11 +17,13 @@ use Rattle.signed.proofs.Bounds.{within-pos, within-sub, within-le}
 use Rattle.binary.proofs.Xor.{two-cases, bit-lt}
 use Rattle.contest.specs.Words.{odd}
 use Rattle.contest.specs.Readings.{InRange, correlation, scores}
-use Rattle.contest.proofs.Loss.{weight}
-use Rattle.contest.proofs.Numbers.{one-small, bit-same, bit-other, tops}
+use Rattle.contest.specs.Losses.{weight}
+use Rattle.contest.specs.Numbers.{tops}
+use Rattle.contest.specs.Figures.{signs, least, code}
+use Rattle.contest.proofs.Numbers.{one-small, bit-same, bit-other}
 use Rattle.contest.proofs.Runs.{Figure}
-use Rattle.contest.proofs.Figures.{signs, least, figure-same, figure-other}
-use Rattle.contest.proofs.Codes.{code, codeSum, codeLeast, codes-weight, codes-odd, codes-least}
+use Rattle.contest.proofs.Figures.{figure-same, figure-other}
+use Rattle.contest.proofs.Codes.{codeSum, codeLeast, codes-weight, codes-odd, codes-least}
 use Rattle.code.specs.Characters.{fourth, fifth, sixth}
 use Rattle.classes.specs.Codewords.{word}
 use Rattle.classes.specs.Classes.{classes, parityOf, charactersOf}

@@ -17,8 +17,10 @@ use Rattle.binary.proofs.Tests.{below}
 use Rattle.contest.specs.Words.{one, odd}
 use Rattle.contest.specs.Readings.{correlation, scores}
 use Rattle.contest.specs.Largest.{Best}
-use Rattle.contest.proofs.Signs.{State, new-least, new-second, new-neither}
-use Rattle.contest.proofs.Numbers.{one-small, one-not, one-differ, bit-same, bit-other, val, val-small, tops}
+use Rattle.contest.specs.Numbers.{val, tops}
+use Rattle.contest.specs.Signs.{State}
+use Rattle.contest.proofs.Signs.{new-least, new-second, new-neither}
+use Rattle.contest.proofs.Numbers.{one-small, one-not, one-differ, bit-same, bit-other, val-small}
 use Rattle.contest.proofs.Block.{best-same, best-other}
 use Rattle.code.specs.Characters.{_⊗_, w, v, products, fourth, fifth, sixth}
 use Rattle.classes.specs.Codewords.{word}

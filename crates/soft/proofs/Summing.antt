@@ -13,7 +13,7 @@ use Rattle.signed.specs.Within.{Within}
 use Rattle.signed.proofs.Sums.{at, _⊕_, _⊖_, opposite, by-eq}
 use Rattle.signed.proofs.Bounds.{within-pos, within-add, within-sub}
 use Rattle.contest.specs.Readings.{correlation}
-use Rattle.classes.specs.Codewords.{positions}
+use Rattle.classes.specs.Codewords.{inPositions}
 use Rattle.classes.specs.Classes.{columnSum}
 use Rattle.soft.specs.Columns.{PairOf, Narrow, SumAt, SumsUpTo, SumsWithin, place, Sums}
 use Rattle.soft.specs.declared.columns.Pair.{Pair}
@@ -25,7 +25,7 @@ module _ (xs : List ℤ) (n : ℕ) (h : n + 4 ≤ length xs) where
   next : (i m : ℕ) → m ≡ suc i → i < length xs → drop i xs ≡ getD xs i (pos 0) ∷ drop m xs
   next i m e l = rw e (drop-cons xs i (pos 0) l)
 
-  four : (w : ℕ) → correlation (positions 4 w) (take 4 (drop n xs))
+  four : (w : ℕ) → correlation (inPositions 4 w) (take 4 (drop n xs))
       ≡ signed (eqb (w / 8 % 2) 1) (getD xs n (pos 0))
       +ℤ (signed (eqb (w / 4 % 2) 1) (getD xs (n + 1) (pos 0))
       +ℤ (signed (eqb (w / 2 % 2) 1) (getD xs (n + 2) (pos 0)) +ℤ signed (eqb (w % 2) 1) (getD xs (n + 3) (pos 0))))

@@ -10,7 +10,7 @@ use Rattle.contest.specs.Readings.{scores}
 use Rattle.contest.specs.Largest.{Largest}
 use Rattle.contest.specs.Answers.{Answers}
 use Rattle.contest.specs.Answers as contest
-use Rattle.code.specs.Code.{messages, codewordOf}
+use Rattle.code.specs.Code.{messages, positions, codewordOf}
 use Rattle.golay.specs.declared.kinds.Refusal.the-variants.{WrongLength, MostNegative, Tied, ClassAbove}
 use Rattle.golay.specs.Refusals.{number}
 use Rattle.golay.specs.Answers.{Answer, accepted, refused, Refuse}
@@ -45,7 +45,7 @@ pub record Decides (xs : List ℤ) (answer : Answer Soft) : Type 0 where
   pub is : answer ≡ told xs outcome
 
 unfoldable pub SoftRule : List ℤ → Answer Soft → Type 0
-SoftRule xs = Refuse WrongLength (wrongLength 24 xs) (Refuse MostNegative (mostNegative xs) (Decides xs))
+SoftRule xs = Refuse WrongLength (wrongLength positions xs) (Refuse MostNegative (mostNegative xs) (Decides xs))
 
 -- "Its figure is the largest correlation in the class": among the 32 codewords from message 32 k on
 pub record HasFigure (xs : List ℤ) (k : ℕ) (answer : Answer ℤ) : Type 0 where
@@ -55,4 +55,4 @@ pub record HasFigure (xs : List ℤ) (k : ℕ) (answer : Answer ℤ) : Type 0 wh
 
 unfoldable pub ClassFigureRule : List ℤ → ℕ → Answer ℤ → Type 0
 ClassFigureRule xs k =
-    Refuse WrongLength (wrongLength 24 xs) (Refuse MostNegative (mostNegative xs) (Refuse ClassAbove (classAbove k) (HasFigure xs k)))
+    Refuse WrongLength (wrongLength positions xs) (Refuse MostNegative (mostNegative xs) (Refuse ClassAbove (classAbove k) (HasFigure xs k)))

@@ -11,9 +11,9 @@ use Rattle.contest.specs.Words.{one, odd}
 use Rattle.contest.specs.Readings.{correlation}
 use Rattle.contest.specs.Largest.{Best}
 use Rattle.contest.specs.declared.Keeper.{Keeper}
-use Rattle.contest.proofs.Loss.{weight}
-use Rattle.contest.proofs.Signs.{State}
-use Rattle.contest.proofs.Numbers.{val, tops}
+use Rattle.contest.specs.Losses.{weight}
+use Rattle.contest.specs.Numbers.{val, tops}
+use Rattle.contest.specs.Signs.{State}
 use Rattle.code.specs.Code.{messages}
 use Rattle.soft.specs.Columns.{place}
 use Rattle.soft.specs.declared.details.Sizes.{Sizes}

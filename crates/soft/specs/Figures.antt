@@ -4,10 +4,9 @@ use mathlib.Core.List.{List}
 use Prim.Native.Nat.{ℕ, _+_, _*_, _/_, _%_, _≤_, _<_, min}
 use lib.IntN.{ℤ, pos, _-ℤ_}
 use lib.ListN.{getD}
-use Rattle.contest.specs.Kept.{lowest, Kept}
+use Rattle.contest.specs.Kept.{lowest, Kept, run}
 use Rattle.contest.specs.declared.Keeper.{Keeper}
-use Rattle.contest.proofs.KeptSpan.{run}
-use Rattle.contest.proofs.Codes.{code}
+use Rattle.contest.specs.Figures.{code}
 use Rattle.code.specs.Characters.{fourth, fifth, sixth}
 use Rattle.classes.specs.Classes.{classes, parityOf}
 use Rattle.soft.specs.Columns.{place}

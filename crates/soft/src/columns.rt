@@ -5,6 +5,7 @@ ghost use mathlib.Core.List.{List};
 ghost use lib.IntN.{ℤ};
 ghost use lib.ListN.{length};
 ghost use Rattle.contest.specs.Readings.{Reading};
+ghost use Rattle.code.specs.Code.{positions};
 ghost use Rattle.soft.specs.Columns.{PairOf, Narrow, Sums, SumsUpTo};
 
 pub(crate) struct Pair {
@@ -14,7 +15,7 @@ pub(crate) struct Pair {
 
 // The confidences at n and after it.
 fn pair_at(reading: &[i32], n: usize) -> Pair
-    requires { ⌜ n < 24 ⌝ }
+    requires { ⌜ n < positions ⌝ }
     ensures { λ r. ⌜ PairOf (now (reading .entry)) n r ⌝ }
     ensures { λ r. ⌜ Narrow r ⌝ }
 {
@@ -32,7 +33,7 @@ fn pair_at(reading: &[i32], n: usize) -> Pair
 fn put_column(sums: &mut [i64; 48], i: usize, upper: Pair, lower: Pair)
     requires { ⌜ (i < 6) × (length (now sums) ≡ 48) ⌝ }
     requires { ⌜ Narrow upper × Narrow lower ⌝ }
-    ensures { λ r. ⌜ ((xs : List ℤ) → length xs ≡ 24 → PairOf xs (4 * i) upper → PairOf xs (4 * i + 2) lower → SumsUpTo xs i (now (sums .entry)) → SumsUpTo xs (i + 1) (now (sums .exit))) ⌝ }
+    ensures { λ r. ⌜ ((xs : List ℤ) → length xs ≡ positions → PairOf xs (4 * i) upper → PairOf xs (4 * i + 2) lower → SumsUpTo xs i (now (sums .entry)) → SumsUpTo xs (i + 1) (now (sums .exit))) ⌝ }
 {
     let u = upper.sum;
     let d = upper.difference;
@@ -51,7 +52,7 @@ fn put_column(sums: &mut [i64; 48], i: usize, upper: Pair, lower: Pair)
 
 // Of a reading that holds no number without an opposite.
 pub(crate) fn column_sums(reading: &[i32]) -> [i64; 48]
-    requires { ⌜ Reading 2147483647 24 (now reading) ⌝ }
+    requires { ⌜ Reading 2147483647 positions (now reading) ⌝ }
     ensures { λ r. ⌜ Sums (now (reading .entry)) r ⌝ }
 {
     let mut sums: [i64; 48] = [0; 48];

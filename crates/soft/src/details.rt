@@ -7,6 +7,7 @@ ghost use lib.ListN.{length, getD};
 ghost use Rattle.signed.specs.Within.{Within};
 ghost use Rattle.contest.specs.Words.{one};
 ghost use Rattle.contest.specs.Readings.{scores};
+ghost use Rattle.code.specs.Code.{positions};
 ghost use Rattle.classes.specs.Codewords.{word};
 ghost use Rattle.classes.specs.Classes.{classes, parityOf, charactersOf};
 ghost use Rattle.soft.specs.Columns.{Sums, SumsWithin};
@@ -153,7 +154,7 @@ fn settled(t: Sizes, p: u32, base: u32) -> Keeper
 pub(crate) fn class_best(sums: &[i64; 48], class: u32) -> Keeper
     requires { ⌜ class < classes ⌝ }
     requires { ⌜ SumsWithin (now sums) ⌝ }
-    ensures { λ r. ⌜ ((xs : List ℤ) → length xs ≡ 24 → Sums xs (now (sums .entry)) → Tops (scores word xs) (class * 32) (class * 32 + 32) r) ⌝ }
+    ensures { λ r. ⌜ ((xs : List ℤ) → length xs ≡ positions → Sums xs (now (sums .entry)) → Tops (scores word xs) (class * 32) (class * 32 + 32) r) ⌝ }
 {
     let t = class_sizes(sums, class as usize);
     settled(t, class / 64 % 2, class * 32)

@@ -5,7 +5,7 @@ ghost use Prim.Native.Nat.{ℕ, _+_, _*_, _≤_, _<_, min};
 ghost use lib.IntN.{ℤ};
 ghost use lib.ListN.{getD};
 ghost use Rattle.signed.specs.Within.{Within};
-ghost use Rattle.contest.proofs.Codes.{code};
+ghost use Rattle.contest.specs.Figures.{code};
 ghost use Rattle.classes.specs.Classes.{classes};
 ghost use Rattle.soft.specs.Columns.{SumsWithin};
 ghost use Rattle.soft.specs.Details.{far};

@@ -7,7 +7,7 @@ ghost use lib.ListN.{length};
 ghost use lib.Signed.{quotZ};
 ghost use Rattle.signed.specs.Within.{Within};
 ghost use Rattle.contest.specs.Readings.{Reading, scores};
-ghost use Rattle.code.specs.Code.{messages};
+ghost use Rattle.code.specs.Code.{messages, positions};
 ghost use Rattle.classes.specs.Codewords.{word};
 ghost use Rattle.soft.specs.Answers.{softAnswer, classFigureAnswer};
 ghost use Rattle.soft.specs.Calls.{Decides, SoftRule, ClassFigureRule};
@@ -24,6 +24,7 @@ use contest::Keeper;
 use details::class_best;
 use figures::codes;
 use figures::largest_figures;
+use golay::POSITIONS;
 use golay::kinds::EncodeAnswer;
 use golay::kinds::Message;
 use golay::kinds::Refusal;
@@ -31,14 +32,12 @@ use kinds::ClassFigureAnswer;
 use kinds::Soft;
 use kinds::SoftAnswer;
 
-const POSITIONS: usize = 24;
-
 const CLASSES: u32 = 128;
 
 // The two largest of all. The runner-up has the next figure, or it is the winner's neighbour in its own class: one class alone is looked into.
 fn two_largest(sums: &[i64; 48]) -> Keeper
     requires { ⌜ SumsWithin (now sums) ⌝ }
-    ensures { λ r. ⌜ ((xs : List ℤ) → length xs ≡ 24 → Sums xs (now (sums .entry)) → Tops (scores word xs) 0 messages r) ⌝ }
+    ensures { λ r. ⌜ ((xs : List ℤ) → length xs ≡ positions → Sums xs (now (sums .entry)) → Tops (scores word xs) 0 messages r) ⌝ }
 {
     let codes = codes(sums);
     let figures = largest_figures(&codes);
@@ -68,7 +67,7 @@ fn half_lead(best: i64, second: i64) -> i64
 // The answer, by the two largest: tied where the first does not lead.
 fn answered(t: Keeper) -> SoftAnswer
     requires { ⌜ Wide t ⌝ }
-    ensures { λ r. ⌜ ((xs : List ℤ) → Reading 2147483647 24 xs → Tops (scores word xs) 0 messages t → Decides xs (softAnswer r)) ⌝ }
+    ensures { λ r. ⌜ ((xs : List ℤ) → Reading 2147483647 positions xs → Tops (scores word xs) 0 messages t → Decides xs (softAnswer r)) ⌝ }
 {
     let best = t.best;
     let second = t.second;

@@ -8,12 +8,12 @@ use denote.Ref.{now}
 use borrow.Author.Needs.{needs}
 use Rattle.patterns.proofs.Fours.{row-lt}
 use Rattle.hard.proofs.Arrange.{at-four-lt}
-use Rattle.hard.proofs.Slots.{Filled, begun, done, turn-fits, turn-room, turn-skip, turn-front, turn-back}
+use Rattle.hard.proofs.Slots.{FilledFrom, begun, done, turn-fits, turn-room, turn-skip, turn-front, turn-back}
 use Rattle.hard.proofs.fill.Statement.{statement}
 use Rattle.hard.proofs.fill.Tie as tie
 
 abbrev Inv-loop : tie.InvT-loop
-Inv-loop word s slots₀ first₀ end₀ i₀ slots first end i = Filled word s slots first end i
+Inv-loop word s slots₀ first₀ end₀ i₀ slots first end i = FilledFrom word s slots first end i
 
 abbrev μ-loop : tie.MeasureT-loop
 μ-loop word s slots₀ first₀ end₀ i₀ slots first end i = i

@@ -14,7 +14,7 @@ use mathlib.Core.List.{[], _∷_}
 use Rattle.signed.specs.Within.{Within}
 use Rattle.signed.proofs.Locals.{fits, lowest}
 use Rattle.contest.specs.Kept.{Kept, seen}
-use Rattle.contest.proofs.KeptSpan.{run, kept-best}
+use Rattle.contest.proofs.KeptSpan.{kept-best}
 use Rattle.quick.specs.Quick.{merits}
 use Rattle.quick.proofs.Turns.{merit-read}
 use Rattle.quick.proofs.cheapest.Statement.{statement}
