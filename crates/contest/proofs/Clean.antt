@@ -12,8 +12,9 @@ use lib.ListN.{length, replicate}
 use lib.Signed.{≤ℤ-refl}
 use Rattle.signed.specs.Sign.{lo, signed}
 use Rattle.signed.proofs.Parts.{hi-neg, lo-neg, ints, sub-parts}
+use Rattle.signed.proofs.Bounds.{size-signed}
 use Rattle.contest.specs.Words.{differ, one, distance, Family}
-use Rattle.contest.specs.Readings.{Reading, correlation, clean, scores}
+use Rattle.contest.specs.Readings.{InRange, Reading, correlation, clean, scores}
 use Rattle.contest.specs.Largest.{Largest}
 use Rattle.contest.specs.Answers.{Accepted, Tied}
 use Rattle.contest.specs.Losses.{loss, weight}
@@ -39,6 +40,11 @@ clean-loss s (b ∷ bs) (c ∷ cs) e =
 pub clean-long : (s : ℕ) (bs : List Bool) → length (clean s bs) ≡ length bs
 clean-long s [] = refl
 clean-long s (b ∷ bs) = omega (arith, clean-long s bs)
+
+pub clean-range : {s B : ℕ} → s ≤ B → (bs : List Bool) → InRange B (clean s bs)
+unfolding InRange
+clean-range h [] = tt
+clean-range {s} h (b ∷ bs) = (record { within = omega (arith, size-signed b (pos s)) }, clean-range h bs)
 
 one-self : (b : Bool) → one (differ b b) ≡ 0
 one-self false = refl

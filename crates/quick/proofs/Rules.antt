@@ -9,10 +9,11 @@ use native.Mathlib.Decide.{ℕ-discrete}
 use lib.IntN.{ℤ}
 use lib.ListN.{length}
 use borrow.Author.Tests.{eq-eqb, ne-eqb}
+use Rattle.code.specs.Code.{positions}
 use Rattle.golay.specs.Answers.{Answer, accepted, refused}
 use Rattle.golay.proofs.Decided.{said-once, refuse-once, reason, reason-number}
 use Rattle.hard.specs.Answers.{Correction}
-use Rattle.hard.proofs.Decided.{correct-decided}
+use Rattle.hard.proofs.Decided.{correct-once}
 use Rattle.golay.specs.Calls.{wrongLength}
 use Rattle.reading.specs.Checks.{mostNegative}
 use Rattle.quick.specs.declared.kinds.QuickAnswer.{QuickAnswer}
@@ -66,8 +67,12 @@ follows-one word xs (refused n) p q = chosen-one p q
 
 decides-one : {xs : List ℤ} {a b : Answer ℕ} → Decides xs a → Decides xs b → a ≡ b
 decides-one {xs} p q =
-    let e = correct-decided (p .corrects) (q .corrects) in
+    let e = correct-once (signWord xs) (p .correction) (q .correction) (p .corrects) (q .corrects) in
     follows-one (signWord xs) xs (q .correction) (rw e at (p .follows)) (q .follows)
+
+pub quick-once : (xs : List ℤ) (a b : Answer ℕ) → QuickRule xs a → QuickRule xs b → a ≡ b
+unfolding QuickRule
+quick-once xs = refuse-once _ (wrongLength positions xs) (refuse-once _ (mostNegative xs) (λ a b s t. decides-one s t))
 
 again : Answer ℕ → QuickAnswer
 again (accepted x) = quick.Accepted (record { 0 = x })
@@ -79,7 +84,4 @@ back (quick.Accepted c) = refl
 back (quick.Refused r) = ap quick.Refused (reason-number r)
 
 pub quick-decided : (xs : List ℤ) (x y : QuickAnswer) → QuickRule xs (quickAnswer x) → QuickRule xs (quickAnswer y) → x ≡ y
-unfolding QuickRule
-quick-decided xs x y p q =
-    said-once quickAnswer again back x y
-    (refuse-once _ (wrongLength 24 xs) (refuse-once _ (mostNegative xs) (λ a b s t. decides-one s t)) (quickAnswer x) (quickAnswer y) p q) refl
+quick-decided xs x y p q = said-once quickAnswer again back x y (quick-once xs (quickAnswer x) (quickAnswer y) p q) refl

@@ -9,9 +9,11 @@ use lib.IntN.{ℤ}
 use lib.ListN.{length}
 use borrow.Author.Tests.{eqb-true, not-false}
 use Rattle.signed.proofs.Parts.{ints}
+use Rattle.contest.specs.Answers.{Answers}
+use Rattle.contest.specs.Answers as contest
 use Rattle.contest.proofs.Bounds.{own-range}
 use Rattle.contest.proofs.Decided.{one-answer, decided}
-use Rattle.code.specs.Code.{messages}
+use Rattle.code.specs.Code.{messages, positions}
 use Rattle.golay.specs.declared.kinds.Refusal.the-variants.{WrongLength, MostNegative}
 use Rattle.golay.specs.Refusals.{number}
 use Rattle.golay.specs.Answers.{Answer, accepted, refused, Refuse}
@@ -27,6 +29,7 @@ use Rattle.soft.specs.Answers.{softAnswer, classFigureAnswer}
 use Rattle.golay.specs.Calls.{wrongLength}
 use Rattle.reading.specs.Checks.{mostNegative}
 use Rattle.soft.specs.Calls.{classAbove, told, Decides, SoftRule, HasFigure, ClassFigureRule}
+use Rattle.soft.proofs.Rules.{soft-decides}
 
 decides-once : (xs : List ℤ) (a b : Answer Soft) → Decides xs a → Decides xs b → a ≡ b
 decides-once xs a b p q = p .is ∙ ap (told xs) (one-answer messages word xs (p .outcome) (q .outcome) (p .answers) (q .answers)) ∙ sym (q .is)
@@ -39,23 +42,28 @@ figure-once xs k a b p q =
 
 pub soft-once : (xs : List ℤ) (a b : Answer Soft) → SoftRule xs a → SoftRule xs b → a ≡ b
 unfolding SoftRule
-soft-once xs = refuse-once _ (wrongLength 24 xs) (refuse-once _ (mostNegative xs) (decides-once xs))
+soft-once xs = refuse-once _ (wrongLength positions xs) (refuse-once _ (mostNegative xs) (decides-once xs))
 
 pub soft-exists : (xs : List ℤ) → (a : Answer Soft) × SoftRule xs a
 unfolding SoftRule
-soft-exists xs = go (wrongLength 24 xs) (mostNegative xs) refl
+soft-exists xs = go (wrongLength positions xs) (mostNegative xs) refl
   where
-    go : (w m : Bool) → wrongLength 24 xs ≡ w → (a : Answer Soft) × Refuse WrongLength w (Refuse MostNegative m (Decides xs)) a
+    go : (w m : Bool) → wrongLength positions xs ≡ w → (a : Answer Soft) × Refuse WrongLength w (Refuse MostNegative m (Decides xs)) a
     go true m e = (refused (number WrongLength), refl)
     go false true e = (refused (number MostNegative), refl)
     go false false e =
         let d = decided family (record { long = eqb-true (length xs) 24 (not-false (eqb (length xs) 24) e); range = own-range xs }) in
         (told xs (d .0), record { outcome = d .0; answers = d .1; is = refl })
 
-classFigure-once : (xs : List ℤ) (k : ℕ) (a b : Answer ℤ) → ClassFigureRule xs k a → ClassFigureRule xs k b → a ≡ b
+pub classFigure-once : (xs : List ℤ) (k : ℕ) (a b : Answer ℤ) → ClassFigureRule xs k a → ClassFigureRule xs k b → a ≡ b
 unfolding ClassFigureRule
 classFigure-once xs k =
-    refuse-once _ (wrongLength 24 xs) (refuse-once _ (mostNegative xs) (refuse-once _ (classAbove k) (figure-once xs k)))
+    refuse-once _ (wrongLength positions xs) (refuse-once _ (mostNegative xs) (refuse-once _ (classAbove k) (figure-once xs k)))
+
+-- the contest's outcome decides every answer to a reading that is not refused before it
+pub soft-told : (xs : List ℤ) → length xs ≡ positions → mostNegative xs ≡ false → (outcome : contest.Answer) → Answers messages word xs outcome
+    → (a : Answer Soft) → SoftRule xs a → a ≡ told xs outcome
+soft-told xs l e o w a r = soft-once xs a (told xs o) r (soft-decides xs l e (record { outcome = o; answers = w; is = refl }))
 
 -- ---- of the calls' own answers, which are made again from what they stand for
 

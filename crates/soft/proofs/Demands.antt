@@ -19,19 +19,22 @@ use Rattle.contest.proofs.Bounds.{range-at}
 use Rattle.contest.proofs.Decided.{only-largest}
 use Rattle.contest.proofs.Reserve.{score-size, reserve-positive, reserve-most}
 use Rattle.contest.proofs.Sharp.{safe, sharp}
-use Rattle.code.specs.Code.{messages, codewordOf}
+use Rattle.code.specs.Code.{messages, positions, codewordOf}
 use Rattle.golay.specs.Answers.{Answer, accepted, refused}
 use Rattle.classes.specs.Codewords.{word}
+use Rattle.classes.specs.Classes.{classes, reachedFigure}
 use Rattle.classes.proofs.Codewords.{family, near}
+use Rattle.classes.proofs.Figures.{class-reached}
 use Rattle.soft.specs.declared.kinds.Soft.{Soft}
 use Rattle.reading.specs.Checks.{mostNegative}
-use Rattle.soft.specs.Calls.{values, told, Decides, SoftRule}
+use Rattle.soft.specs.Calls.{values, told, Decides, SoftRule, ClassFigureRule}
 use Rattle.reading.proofs.Checking.{none-negative}
-use Rattle.soft.proofs.Rules.{soft-decides, decides-soft}
+use Rattle.soft.proofs.Rules.{decides-soft, figure-within}
+use Rattle.soft.proofs.Decided.{soft-told, classFigure-once}
 
 -- a valid reading: 24 confidences, each from -2,147,483,647 to 2,147,483,647
 abbrev pub Valid : List ℤ → Type 0
-Valid xs = Reading 2147483647 24 xs
+Valid xs = Reading 2147483647 positions xs
 
 module _ {xs : List ℤ} (X : Valid xs) where
   usable : mostNegative xs ≡ false
@@ -87,8 +90,8 @@ module _ {xs : List ℤ} (X : Valid xs) where
         omega ints
 
   -- refused with 6 exactly if two codewords share the largest correlation
-  pub tied-refused : Tied messages word xs → SoftRule xs (refused 6)
-  tied-refused t = soft-decides xs (X .long) usable (record { outcome = contest.tied; answers = t; is = refl })
+  pub tied-refused : Tied messages word xs → (a : Answer Soft) → SoftRule xs a → a ≡ refused 6
+  tied-refused = soft-told xs (X .long) usable contest.tied
 
   pub refused-tied : {n : ℕ} → SoftRule xs (refused n) → Tied messages word xs × (n ≡ 6)
   refused-tied {n} r = go (decides r .outcome) (decides r .answers) (decides r .is)
@@ -149,3 +152,12 @@ module _ {xs : List ℤ} (X : Valid xs) (s : Soft) (r : SoftRule xs (accepted s)
         reserve-is X s r ∙ ap pos (sym (v .2)),
         not-answered (v .1) (v .3),
       )
+
+-- ---- the class figure
+
+-- every answer for a class is what its six sums reach: their sizes added, less twice the least where the top row rule is broken
+pub figure-reached : {xs : List ℤ} → Valid xs → (k : ℕ) → k < classes → (a : Answer ℤ) → ClassFigureRule xs k a → a ≡ accepted (reachedFigure xs k)
+figure-reached {xs} X k h a r =
+    let F = class-reached xs (X .long) k h in
+    classFigure-once xs k a (accepted (reachedFigure xs k)) r
+    (figure-within xs k (X .long) (usable X) h (record { message = F .at; largest = F .largest; is = ap accepted (F .is) }))

@@ -7,3 +7,4 @@ pub mod Answering
 pub mod Rules
 pub mod Decided
 pub mod Demands
+pub mod Cases
