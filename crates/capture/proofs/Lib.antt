@@ -1,3 +1,4 @@
 pub mod Decoding
 pub mod Upto
 pub mod Turns
+pub mod Cases

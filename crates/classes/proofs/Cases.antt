@@ -26,7 +26,7 @@ use Rattle.contest.proofs.Bounds.{own-range}
 use Rattle.contest.proofs.Decided.{at-level}
 use Rattle.contest.proofs.Clean.{clean-loss, clean-accepted, silence-tied}
 use Rattle.classes.specs.Codewords.{word}
-use Rattle.classes.specs.Cases.{allOnes, allZeros, oneAgainst}
+use Rattle.reading.specs.Cases.{allOnes, allZeros, oneAgainst}
 use Rattle.classes.proofs.Positions.{distance-positions}
 use Rattle.classes.proofs.Codewords.{word-long, family, near}
 

@@ -1,3 +1,2 @@
 pub mod Codewords
 pub mod Classes
-pub mod Cases

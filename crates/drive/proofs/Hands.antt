@@ -6,7 +6,7 @@ use Prim.Native.Nat.{ℕ}
 use Rattle.golay.specs.Answers.{Answer, accepted, refused, lent}
 use Rattle.golay.specs.Bytes.{bytesOf}
 use Rattle.golay.specs.Calls.{writeBytesRule, WritesBytes}
-use Rattle.hard.proofs.Decided.{candidates-decided, slots-decided}
+use Rattle.hard.proofs.Decided.{candidates-once, slots-once}
 use Rattle.drive.specs.Drive.{HandsBack, HandsBackOne, HandsBackCandidates, returned, output}
 
 module _ {A M : Type 0} {answer : Answer A} {made : A → M} {before : M} where
@@ -57,4 +57,4 @@ pub hands-candidates-decided :
     → HandsBackCandidates word before later other
     → (status ≡ other) × (after ≡ later)
 hands-candidates-decided p q =
-    (p .status-is ∙ ap returned (candidates-decided (p .writes) (q .writes)) ∙ sym (q .status-is), slots-decided (p .writes) (q .writes))
+    (p .status-is ∙ ap returned (candidates-once (p .writes) (q .writes)) ∙ sym (q .status-is), slots-once (p .writes) (q .writes))

@@ -1,3 +1,4 @@
 pub mod Turns
 pub mod Choosing
 pub mod Rules
+pub mod Cases

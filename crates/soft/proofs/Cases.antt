@@ -12,7 +12,7 @@ use Rattle.code.specs.Code.{messages, codewordOf}
 use Rattle.golay.specs.Answers.{Answer, accepted, refused}
 use Rattle.reading.proofs.Checking.{none-negative}
 use Rattle.classes.specs.Codewords.{word}
-use Rattle.classes.specs.Cases.{allOnes, allZeros, oneAgainst}
+use Rattle.reading.specs.Cases.{allOnes, allZeros, oneAgainst}
 use Rattle.classes.proofs.Codewords.{word-long}
 use Rattle.classes.proofs.Cases.{yardstick, ones-accepted, zeros-tied, one-against-tied}
 use Rattle.soft.specs.declared.kinds.Soft.{Soft}

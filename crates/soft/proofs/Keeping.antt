@@ -11,7 +11,7 @@ use lib.IntN.{ℤ}
 use lib.Signed.{ltZ, _<ℤ_}
 use Rattle.signed.specs.Within.{Within}
 use Rattle.signed.proofs.Parts.{ints, size-parts}
-use Rattle.contest.specs.Kept.{Seen, seen, lowest, Kept, taken}
+use Rattle.contest.specs.Kept.{Seen, seen, lowest, Kept, taken, run}
 use Rattle.contest.specs.Largest.{Best}
 use Rattle.contest.specs.declared.Keeper.{Keeper}
 use Rattle.contest.proofs.Keeping.{keep-first}

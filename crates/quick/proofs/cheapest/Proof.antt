@@ -13,7 +13,7 @@ use borrow.Author.Count.{below-more}
 use mathlib.Core.List.{[], _∷_}
 use Rattle.signed.specs.Within.{Within}
 use Rattle.signed.proofs.Locals.{fits, lowest}
-use Rattle.contest.specs.Kept.{Kept, seen}
+use Rattle.contest.specs.Kept.{Kept, seen, run}
 use Rattle.contest.proofs.KeptSpan.{kept-best}
 use Rattle.quick.specs.Quick.{merits}
 use Rattle.quick.proofs.Turns.{merit-read}
