@@ -1,60 +1,105 @@
-/* Garthumor: a decoder for the extended Golay code, as document 01 defines it.
+/* Garthumor: decodes commands that come as words of the extended Golay code.
+ *
+ * Terms and ranges. docs/RULES.md has each rule in full under the number given here.
+ *
+ *   message      a command, 0 to 4,095 (3.1)
+ *   word         24 bits, at the positions 1 to 24, as a number: 0 to 16,777,215; position 1 counts
+ *                2^23 (1.2)
+ *   codeword     the word that a message is sent as; there are 4,096, and two of them differ at no
+ *                fewer than 8 positions (2.3, 3.4)
+ *   distance     at how many positions two words differ (5.1)
+ *   syndrome     tells codewords from other words: 0 to 4,095, and 0 for codewords alone (4.1)
+ *   reading      24 confidences, position 1 first, each -2,147,483,647 to 2,147,483,647: positive
+ *                speaks for bit 0, negative for bit 1, and its size is how strongly (6.1 to 6.3)
+ *   correlation  how strongly a reading speaks for a codeword: the confidences where it has a 0,
+ *                less those where it has a 1; at most 51,539,607,528 (6.4, 6.5)
+ *   reserve      how much change of the reading an answer bears, 1 to 17,179,869,176 (7.2). How far
+ *                each confidence moves, added up, is the change: any that is less than the reserve
+ *                keeps the answer, some change of exactly the reserve loses it (7.5 to 7.7)
+ *   class        class k, 0 to 127, is the 32 codewords of the messages 32 k to 32 k + 31 (8.1)
+ *   figure       the largest correlation in a class, 0 to 51,539,607,528 (8.2)
+ *
+ * A yardstick: a clean signal, all 24 confidences right and of one size s, has the correlation 24 s
+ * and the reserve 8 s, and no reading with sizes up to s has a larger reserve. To turn one of its
+ * confidences over is a change of 2 s, so any three may be turned over; four may lose the word.
  *
  * Each call returns 0 where it answers, else the number of a refusal, and writes its outputs only
  * where it answers: a refusal leaves every output and every lent byte as it was. Where several
- * refusals apply, the first that a call lists is the one that it gives.
+ * refusals apply, the first that a call lists is the one that it gives (11.2 to 11.5).
  *
- *   1  a reading is not 24 long, a codeword buffer is not 3 bytes, or the slots are not six
- *   2  a confidence is -2,147,483,648        6  tied: no one word is best
- *   3  a message is above 4,095              7  correction at distance 4
- *   4  a word is above 16,777,215            8  candidates at a distance other than 4
- *   5  a valid word is not a codeword       11  a class number is above 127
- *
- * A word is a number below 2^24; position 1 is worth 2^23, and bytes come first position first. A
- * reading is 24 confidences, position 1 first; positive speaks for bit 0.
  * The caller keeps: pointers are valid, not null and aligned, a length is how many stand behind its
- * pointer, and no two arguments overlap. Nothing is kept between calls: they may run side by side. */
+ * pointer, and no two arguments overlap.
+ *
+ * The library is for x86-64 Linux. Of C it needs memcpy and memset alone. It takes nothing from a
+ * heap and keeps nothing between calls, so that they may run side by side. The deepest call,
+ * garthumor_soft, takes 3,160 bytes of stack. */
 #ifndef GARTHUMOR_H
 #define GARTHUMOR_H
 
 #include <stddef.h>
 #include <stdint.h>
 
+/* The first number changes where a program that uses the library may have to change with it. */
+#define GARTHUMOR_VERSION "1.0.0"
+#define GARTHUMOR_VERSION_MAJOR 1
+#define GARTHUMOR_VERSION_MINOR 0
+#define GARTHUMOR_VERSION_PATCH 0
+
+/* What a call returns (11.1). 9 and 10 are missing: they tell how a capture stops, and no call here
+ * gives them. */
+#define GARTHUMOR_ANSWERED 0
+#define GARTHUMOR_WRONG_LENGTH 1       /* not 24 confidences, not 3 bytes or not 6 slots */
+#define GARTHUMOR_MOST_NEGATIVE 2      /* a confidence is -2,147,483,648 */
+#define GARTHUMOR_MESSAGE_ABOVE 3      /* above 4,095 */
+#define GARTHUMOR_WORD_ABOVE 4         /* above 16,777,215 */
+#define GARTHUMOR_NOT_CODEWORD 5       /* a word, but no codeword */
+#define GARTHUMOR_TIED 6               /* two words are best, or more: there is no answer */
+#define GARTHUMOR_DISTANCE_FOUR 7      /* too far from the code to be corrected; six are as near */
+#define GARTHUMOR_NOT_DISTANCE_FOUR 8  /* nearer to the code than 4, so no six candidates */
+#define GARTHUMOR_CLASS_ABOVE 11       /* above 127 */
+
 #ifdef __cplusplus
 extern "C" {
 #endif
 
-/* The codeword of a message. Refuses 3. */
-uint8_t garthumor_encode(uint32_t message, uint32_t *codeword);
+/* ---- decoding */
 
-/* The message of a codeword. Refuses 4, 5. */
-uint8_t garthumor_read(uint32_t word, uint32_t *message);
-
-/* The syndrome of any word: zero exactly for codewords. Refuses 4. */
-uint8_t garthumor_syndrome(uint32_t word, uint32_t *syndrome);
-
-/* The nearest codeword and its distance, 0 to 3. Refuses 4, 7. */
-uint8_t garthumor_correct(uint32_t word, uint32_t *codeword, uint32_t *distance);
-
-/* Writes the six codewords at distance 4, ascending, to six slots. Refuses 1, 4, 8. */
-uint8_t garthumor_candidates(uint32_t word, uint32_t *slots, size_t slot_count);
-
-/* The largest correlation among the 32 codewords of a class, 0 to 127. Refuses 1, 2, 11. */
-uint8_t garthumor_class_figure(const int32_t *reading, size_t length, uint32_t class_number, int64_t *figure);
-
-/* The one codeword with the largest correlation. Any change of the confidences, within
- * -2,147,483,647 to 2,147,483,647, that adds up to less than the reserve keeps it; some change of
- * exactly the reserve loses it. Refuses 1, 2, 6. */
+/* The codeword whose correlation is above that of every other, with its message, the correlation and
+ * the reserve (7.1, 7.2). Refuses 1, 2, 6. */
 uint8_t garthumor_soft(const int32_t *reading, size_t length, uint32_t *message, uint32_t *codeword, int64_t *correlation, int64_t *reserve);
 
-/* For comparison: the signs, corrected; may give another word than soft. Refuses 1, 2, 6. */
+/* For comparison: the signs as a word, corrected, or the candidate that goes against the least
+ * confidence (9.2 to 9.5). It may give another codeword than soft does. Refuses 1, 2, 6. */
 uint8_t garthumor_quick(const int32_t *reading, size_t length, uint32_t *codeword);
 
-/* Writes a codeword as three bytes. Refuses 1, 4, 5. */
+/* The figure of a class (8.2). Refuses 1, 2, 11. */
+uint8_t garthumor_class_figure(const int32_t *reading, size_t length, uint32_t class_number, int64_t *figure);
+
+/* ---- the code */
+
+/* The codeword of a message (3.4). Refuses 3. */
+uint8_t garthumor_encode(uint32_t message, uint32_t *codeword);
+
+/* The message of a codeword (3.5). Refuses 4, 5. */
+uint8_t garthumor_read(uint32_t word, uint32_t *message);
+
+/* The syndrome of any word (4.1). Refuses 4. */
+uint8_t garthumor_syndrome(uint32_t word, uint32_t *syndrome);
+
+/* Writes a codeword as three bytes, positions 1 to 8 first (10.1, 10.2). Refuses 1, 4, 5. */
 uint8_t garthumor_write_bytes(uint32_t codeword, uint8_t *bytes, size_t length);
 
-/* The codeword that three bytes hold. Refuses 1, 5. */
+/* The codeword that three bytes hold (10.3). Refuses 1, 5. */
 uint8_t garthumor_read_bytes(const uint8_t *bytes, size_t length, uint32_t *codeword);
+
+/* ---- words with errors */
+
+/* The nearest codeword and its distance, 0 to 3 (5.5). Refuses 4, 7. */
+uint8_t garthumor_correct(uint32_t word, uint32_t *codeword, uint32_t *distance);
+
+/* Where correct refuses with 7: writes the six codewords at distance 4 to six slots, the least first
+ * (5.7). Refuses 1, 4, 8. */
+uint8_t garthumor_candidates(uint32_t word, uint32_t *slots, size_t slot_count);
 
 #ifdef __cplusplus
 }
