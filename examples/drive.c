@@ -1,5 +1,5 @@
 /* How a drive's firmware uses the library: take a reading, act on the answer, keep the last speed
- * where there is none, and raise an alarm where the reserve is small.
+ * where there is none, raise an alarm where the signal is weak, and tell that from a fault.
  *
  *   cc -Iinclude examples/drive.c target/staticlib/libdrive.a -o drive && ./drive          */
 #include "garthumor.h"
@@ -7,12 +7,14 @@
 #include <inttypes.h>
 #include <stdio.h>
 
-/* What a plant's engineer sets: an answer that a change of this many confidences in all could lose. */
+/* What a plant's engineer sets: a signal is weak where a change of its confidences that adds up to
+ * less than this could lose the word. A clean signal of size 500 has this reserve. */
 static const int64_t SMALL_RESERVE = 4000;
 
 struct drive {
     uint32_t speed;
-    int alarm;
+    int alarm; /* the last signal was weak, or no command was best */
+    int fault; /* the last reading was none */
 };
 
 static void take(struct drive *drive, const int32_t reading[24])
@@ -20,23 +22,34 @@ static void take(struct drive *drive, const int32_t reading[24])
     uint32_t message, codeword;
     int64_t correlation, reserve;
     uint8_t refusal = garthumor_soft(reading, 24, &message, &codeword, &correlation, &reserve);
-    if (refusal != 0) {
-        /* There is no best word: the speed stays what it was. */
+    drive->alarm = 0;
+    drive->fault = 0;
+    switch (refusal) {
+    case GARTHUMOR_ANSWERED:
+        drive->speed = message;
+        drive->alarm = reserve < SMALL_RESERVE;
+        printf("speed %" PRIu32 ", reserve %" PRId64 "%s\n", message, reserve, drive->alarm ? ": weak signal" : "");
+        break;
+    case GARTHUMOR_TIED:
+        /* No command is best: the speed stays what it was. */
         drive->alarm = 1;
         printf("refused %u: speed stays %" PRIu32 "\n", (unsigned)refusal, drive->speed);
-        return;
+        break;
+    default:
+        /* This says nothing of the signal: the receiver handed over a number that is no confidence
+         * (GARTHUMOR_MOST_NEGATIVE), or this program not 24 of them (GARTHUMOR_WRONG_LENGTH). */
+        drive->fault = 1;
+        printf("refused %u: fault, speed stays %" PRIu32 "\n", (unsigned)refusal, drive->speed);
+        break;
     }
-    drive->speed = message;
-    drive->alarm = reserve < SMALL_RESERVE;
-    printf("speed %" PRIu32 ", reserve %" PRId64 "%s\n", message, reserve, drive->alarm ? ": weak signal" : "");
 }
 
 int main(void)
 {
-    struct drive drive = { 0, 0 };
+    struct drive drive = { 0, 0, 0 };
     int32_t strong[24], weak[24], silent[24];
     uint32_t codeword;
-    if (garthumor_encode(1500, &codeword) != 0)
+    if (garthumor_encode(1500, &codeword) != GARTHUMOR_ANSWERED)
         return 1;
     for (int i = 0; i < 24; i++) {
         int one = codeword >> (23 - i) & 1;
