@@ -1,5 +1,5 @@
-//! What a capture is and what the capture program must print: records by document 01's mark, each
-//! with its soft answer.
+//! What a capture is and what the capture program must print: records (12.1), each with its soft
+//! answer (13.1).
 
 use crate::code::{Code, POSITIONS};
 use crate::decoders::Refusal;
@@ -16,7 +16,7 @@ pub fn record(reading: &[i32]) -> Vec<u8> {
     MARK.into_iter().chain(confidences).collect()
 }
 
-/// The whole output, each line ended by a line feed.
+/// All that is printed, with the line feed of the last line.
 pub fn output(code: &Code, capture: &[u8]) -> String {
     let mut lines = String::from("message reserve\n");
     let mut start = 0;
@@ -41,7 +41,7 @@ fn line(code: &Code, reading: &[i32]) -> String {
 }
 
 /// The reading of the record that the bytes left begin with. A wrong mark is 9 even where the
-/// record is cut short too.
+/// record is cut short too (12.3).
 fn reading_at_start(left: &[u8]) -> Result<Vec<i32>, Refusal> {
     if left.len() >= MARK.len() && left[..MARK.len()] != MARK {
         return Err(Refusal::NoMark);

@@ -103,7 +103,7 @@ fn refused_readings(mut reading: impl FnMut(usize) -> Vec<i32>, tied: &[i32]) ->
     readings
 }
 
-/// Document 01's readings, the soft and the quick ones together.
+/// The worked readings (16.6), for the soft and the quick decoder together.
 fn readings_of_the_document() -> Vec<Vec<i32>> {
     let mut ends_loud = vec![2; POSITIONS];
     ends_loud[..4].fill(-100);

@@ -1,4 +1,4 @@
-//! The extended Golay code by document 01's rules alone: characters, columns, codewords, syndromes.
+//! The extended Golay code by rules 1.1 to 5.1: characters, columns, codewords, syndromes.
 
 pub const POSITIONS: usize = 24;
 pub const COLUMNS: usize = 6;
@@ -22,7 +22,7 @@ impl Code {
     }
 }
 
-/// Product of two characters: ww = v, wv = 1, vv = w.
+/// Product of two characters (1.8).
 fn times(x: u32, y: u32) -> u32 {
     match (x, y) {
         (0, _) | (_, 0) => 0,
@@ -74,7 +74,7 @@ pub fn hexacodeword(a: u32, b: u32, c: u32) -> [u32; COLUMNS] {
     ]
 }
 
-/// Document 01's table of columns has one column for every choice, so the search meets exactly one.
+/// The table of rule 1.10 has one column for every choice, so the search meets exactly one.
 fn column_with(wanted_parity: u32, character: u32, top_bit: u32) -> u32 {
     (0..16)
         .find(|&column| {
@@ -85,7 +85,7 @@ fn column_with(wanted_parity: u32, character: u32, top_bit: u32) -> u32 {
         .expect("a column for every parity, character and top bit")
 }
 
-/// The top bits of columns 1 to 6; the message holds five, and the sixth makes the row's parity p.
+/// The top row: the message holds five bits of it (3.2), and the sixth makes its parity p (3.3).
 fn top_row(message: u32, p: u32) -> [u32; COLUMNS] {
     let five = message & 31;
     [
@@ -137,7 +137,7 @@ pub fn distance(word: u32, other: u32) -> u32 {
     (word ^ other).count_ones()
 }
 
-/// The bit of a word at a place counted from 0; position 1 of document 01 is place 0, worth 2^23.
+/// The bit of a word at a place counted from 0: position 1 (1.2) is place 0, worth 2^23.
 pub fn bit_at(word: u32, place: usize) -> bool {
     word >> (POSITIONS - 1 - place) & 1 == 1
 }

@@ -1,8 +1,8 @@
-//! Every call of document 01, decided by trying all codewords: the complete answer, or the refusal.
+//! Every call (11.3), decided by trying all codewords: the complete answer, or the refusal.
 
 use crate::code::{bit_at, distance, syndrome_of, Code, MESSAGES, POSITIONS, WORDS};
 
-/// The refusals by document 01's numbers.
+/// The refusals by their numbers (11.1).
 #[derive(Clone, Copy, Debug, PartialEq)]
 pub enum Refusal {
     Length = 1,
@@ -90,7 +90,7 @@ fn place_of_largest(numbers: &[i64], left_out: Option<usize>) -> usize {
         .expect("a number to choose")
 }
 
-/// Bit 1 exactly where the confidence is negative.
+/// A zero is no negative number, and so bit 0 (9.2).
 fn word_of_signs(reading: &Reading) -> u32 {
     reading
         .iter()
@@ -141,7 +141,7 @@ impl Code {
         Ok(word)
     }
 
-    /// The distance of a word from the code, and every codeword at that distance, ascending.
+    /// How far a word is from the code (5.4), and every codeword at that distance, ascending.
     pub fn nearest(&self, word: u32) -> (u32, Vec<u32>) {
         let least = self
             .codewords

@@ -1,7 +1,8 @@
 //! The second program's commands: it decides by brute force what every call must answer.
 //!
-//! It is written from document 01 alone and shares no table and no trick with the proved code, so
-//! that a slip of the one can't be a slip of the other.
+//! It is written from the rules alone and shares no table and no trick with the proved code, so
+//! that a slip of the one can't be a slip of the other. A number such as 5.7 is a rule's, in
+//! docs/RULES.md.
 
 mod capture;
 mod captures;

@@ -1,4 +1,4 @@
-//! Random readings of several kinds, each made to provoke something that document 01 speaks of.
+//! Random readings of several kinds, each made to provoke something that a rule speaks of.
 
 use crate::chance::Chance;
 use crate::code::{bit_at, Code, COLUMNS, POSITIONS};

@@ -1,4 +1,4 @@
-//! Tests of the second program itself: document 01's cases and sentences, line format, comparing.
+//! Tests of the second program itself: worked cases (section 16), rules, line format, comparing.
 //!
 //! Built by `rustc -O --test --edition 2021 -o target/second-tests tests/second/main.rs`.
 
@@ -124,7 +124,7 @@ fn readings_of_the_document() {
     }
 }
 
-/// Document 01 counts 253 words at 109; the refusal alone would hide a wrong count.
+/// Rule 16.6 counts 253 words at 109; the refusal alone would hide a wrong count.
 #[test]
 fn words_tied_in_the_document() {
     let code = code();
@@ -198,7 +198,7 @@ fn columns_of_the_document() {
     }
 }
 
-/// Document 01's definition, word for word; the list of encodings is another sentence of it.
+/// Rule 2.2, condition by condition; the list of encodings goes by rule 3.4.
 fn is_codeword(word: u32) -> bool {
     let columns = columns(word);
     let p = parity(columns[0]);

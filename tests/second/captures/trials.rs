@@ -99,7 +99,7 @@ fn unreadable() -> Vec<Trial> {
         .collect()
 }
 
-/// Document 01's capture and the least ones, each given in every way.
+/// The worked capture (13.7) and the least ones, each given in every way.
 fn short() -> Vec<Trial> {
     let (ones, zeros) = (record(&[1; POSITIONS]), record(&[0; POSITIONS]));
     let refused = record(&[FORBIDDEN; POSITIONS]);

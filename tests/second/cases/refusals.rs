@@ -1,6 +1,5 @@
 //! Each refusal on both sides of its boundary, and the refusals that can apply at once, with the
-//! number that document 01's order gives: lengths first, then 2, 3, 4 and 11, then 5, then the rest.
-//! Number 0 is an answer.
+//! number that comes first (11.2). Number 0 is an answer.
 
 use super::{of_length, ones, quick, with_confidence, zeros};
 use crate::code::POSITIONS;

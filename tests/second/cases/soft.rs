@@ -62,7 +62,7 @@ fn reading(code: &Code, chance: &mut Chance, i: usize) -> Vec<i32> {
     KINDS[i % KINDS.len()](chance, code)
 }
 
-/// Document 01's readings, and the classes at both ends of the range for each of them.
+/// The worked readings (16.6), and the classes at both ends of the range for each of them.
 fn examples() -> Vec<Case> {
     let mut cases: Vec<Case> = readings_of_the_document()
         .into_iter()
