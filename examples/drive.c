@@ -1,7 +1,7 @@
 /* How a drive's firmware uses the library: take a reading, act on the answer, keep the last speed
  * where there is none, raise an alarm where the signal is weak, and tell that from a fault.
  *
- *   cc -Iinclude examples/drive.c target/staticlib/libdrive.a -o drive && ./drive          */
+ *   cc -Iinclude examples/drive.c target/staticlib/libdrive.a -o target/drive && target/drive */
 #include "garthumor.h"
 
 #include <inttypes.h>

@@ -20,8 +20,8 @@
  *   figure       the largest correlation in a class, 0 to 51,539,607,528 (8.2)
  *
  * A yardstick: a clean signal, all 24 confidences right and of one size s, has the correlation 24 s
- * and the reserve 8 s, and no reading with sizes up to s has a larger reserve. To turn one of its
- * confidences over is a change of 2 s, so any three may be turned over; four may lose the word.
+ * and the reserve 8 s, and no reading with sizes up to s has a larger reserve (7.8). To turn one of
+ * its confidences over is a change of 2 s, so any three may be turned over; four may lose the word.
  *
  * Each call returns 0 where it answers, else the number of a refusal, and writes its outputs only
  * where it answers: a refusal leaves every output and every lent byte as it was. Where several
@@ -64,8 +64,8 @@ extern "C" {
 
 /* ---- decoding */
 
-/* The codeword whose correlation is above that of every other, with its message, the correlation and
- * the reserve (7.1, 7.2). Refuses 1, 2, 6. */
+/* The codeword whose correlation is above that of every other, with its message, this correlation
+ * and the reserve (7.1, 7.2). Refuses 1, 2, 6. */
 uint8_t garthumor_soft(const int32_t *reading, size_t length, uint32_t *message, uint32_t *codeword, int64_t *correlation, int64_t *reserve);
 
 /* For comparison: the signs as a word, corrected, or the candidate that goes against the least
@@ -97,8 +97,8 @@ uint8_t garthumor_read_bytes(const uint8_t *bytes, size_t length, uint32_t *code
 /* The nearest codeword and its distance, 0 to 3 (5.5). Refuses 4, 7. */
 uint8_t garthumor_correct(uint32_t word, uint32_t *codeword, uint32_t *distance);
 
-/* Where correct refuses with 7: writes the six codewords at distance 4 to six slots, the least first
- * (5.7). Refuses 1, 4, 8. */
+/* Where correct refuses with 7: writes the six codewords at distance 4 to six slots, the least
+ * first (5.7). Refuses 1, 4, 8. */
 uint8_t garthumor_candidates(uint32_t word, uint32_t *slots, size_t slot_count);
 
 #ifdef __cplusplus
