@@ -35,9 +35,10 @@ static void take(struct drive *drive, const int32_t reading[24])
         drive->alarm = 1;
         printf("refused %u: speed stays %" PRIu32 "\n", (unsigned)refusal, drive->speed);
         break;
+    case GARTHUMOR_MOST_NEGATIVE: /* the receiver handed over a number that is no confidence */
+    case GARTHUMOR_WRONG_LENGTH:  /* this program handed over other than 24 of them */
     default:
-        /* This says nothing of the signal: the receiver handed over a number that is no confidence
-         * (GARTHUMOR_MOST_NEGATIVE), or this program not 24 of them (GARTHUMOR_WRONG_LENGTH). */
+        /* This tells nothing of the signal. */
         drive->fault = 1;
         printf("refused %u: fault, speed stays %" PRIu32 "\n", (unsigned)refusal, drive->speed);
         break;
