@@ -1,19 +1,16 @@
 -- The worked readings' answers in the contest of the codewords: a clean signal is accepted with eight times its size, silence is tied, and
 -- so is one strong confidence against 23 weak ones.
-use mathlib.Core.Path.{_≡_, refl, sym, ap, _∙_}
+use mathlib.Core.Path.{_≡_, refl, sym}
 use mathlib.Core.Logic.{_≢_}
 use mathlib.Core.Bool.{Bool, true, false}
 use mathlib.Core.List.{List, [], _∷_}
-use Prim.Native.Nat.{ℕ, zero, suc, _+_, _*_, _≤_, _<_}
+use Prim.Native.Nat.{ℕ, _*_, _≤_, _<_}
 use native.Mathlib.Omega.{arith}
 use native.Mathlib.Decide.{ℕ-discrete}
-use lib.Dec.{lit<, lit≤}
-use lib.IntN.{ℤ, pos}
+use lib.Dec.{lit<}
+use lib.IntN.{pos}
 use lib.ListN.{length, replicate}
-use lib.Signed.{_≤ℤ_}
-use Rattle.signed.specs.Sign.{lo, signed}
 use Rattle.signed.proofs.Parts.{ints}
-use Rattle.binary.specs.Words.{ones}
 use Rattle.code.specs.Code.{messages, codewordOf}
 use Rattle.code.proofs.Encoding.{codewordOf-codeword, codeword-lt, codeword-injective}
 use Rattle.code.proofs.Distances.{codeword-distance}

@@ -2,17 +2,22 @@
 -- 8 ones.
 use mathlib.Core.Path.{_≡_, sym, ap, _∙_}
 use mathlib.Core.Logic.{_≢_}
-use Prim.Native.Nat.{ℕ, _<_}
+use mathlib.Core.List.{List}
+use Prim.Native.Nat.{ℕ, _*_, _≤_, _<_}
 use native.Mathlib.Omega.{arith}
 use lib.Dec.{lit<, lit≤}
 use lib.Bits.{bitXor, xor-lt, xor-self}
+use lib.IntN.{ℤ}
 use lib.ListN.{length}
 use Rattle.binary.specs.Words.{ones}
 use Rattle.binary.proofs.Xor.{xor-back}
 use Rattle.binary.proofs.Linear.{rowSum-add}
-use Rattle.code.specs.Code.{messages, codewordOf}
+use Rattle.code.specs.Code.{messages, positions, codewordOf}
 use Rattle.code.proofs.Encoding.{codewordRows, codeword-rows, codeword-lt, codeword-injective}
 use Rattle.contest.specs.Words.{Family, distance}
+use Rattle.contest.specs.Readings.{Reading}
+use Rattle.contest.specs.Answers.{Accepted}
+use Rattle.contest.proofs.Reserve.{reserve-most}
 use Rattle.classes.specs.Codewords.{word}
 use Rattle.classes.proofs.Positions.{positions-long, positions-injective, distance-positions}
 
@@ -51,3 +56,9 @@ near m h =
           distance-positions 24 (codewordOf m) (codewordOf k)
           ∙ ap (ones 24) (ap (bitXor (codewordOf m)) sum ∙ xor-back (codewordOf m) 0x0000FF);
     }
+
+-- so no reserve is larger than eight times the range
+pub reserve-within : {B : ℕ} {xs : List ℤ} → Reading B positions xs → {m ρ : ℕ} → Accepted messages word xs m ρ → ρ ≤ 8 * B
+reserve-within X {m} a =
+    let n = near m (a .known) in
+    rw (n .eight) at (reserve-most family X a (n .message) (n .known) (n .other))

@@ -1,13 +1,13 @@
 -- What two plain signals are answered by, in any family: a clean signal of a word by that word, with the least distance times the size of
 -- its confidences as the reserve; and silence by a tie.
-use mathlib.Core.Path.{_≡_, refl}
+use mathlib.Core.Path.{_≡_, refl, ap}
 use mathlib.Core.Logic.{_≢_}
 use mathlib.Core.Bool.{Bool, true, false}
 use mathlib.Core.List.{List, [], _∷_}
-use Prim.Native.Nat.{ℕ, zero, suc, _+_, _*_, _≤_, _<_}
+use Prim.Native.Nat.{ℕ, zero, suc, _*_, _≤_, _<_}
 use native.Mathlib.Nat.{add-mul, mul-le-mul-right}
 use native.Mathlib.Omega.{arith}
-use lib.IntN.{ℤ, pos, _+ℤ_}
+use lib.IntN.{ℤ, pos, negℤ-negℤ}
 use lib.ListN.{length, replicate}
 use lib.Signed.{≤ℤ-refl}
 use Rattle.signed.specs.Sign.{lo, signed}
@@ -40,6 +40,15 @@ clean-loss s (b ∷ bs) (c ∷ cs) e =
 pub clean-long : (s : ℕ) (bs : List Bool) → length (clean s bs) ≡ length bs
 clean-long s [] = refl
 clean-long s (b ∷ bs) = omega (arith, clean-long s bs)
+
+twice-signed : (b : Bool) (x : ℤ) → signed b (signed b x) ≡ x
+twice-signed false x = refl
+twice-signed true x = negℤ-negℤ x
+
+pub clean-correlation : (s : ℕ) (bs : List Bool) → correlation bs (clean s bs) ≡ pos (length bs * s)
+unfolding correlation
+clean-correlation s [] = ap pos (omega arith)
+clean-correlation s (b ∷ bs) = rw (twice-signed b (pos s), clean-correlation s bs) (ap pos (omega (arith, add-mul 1 (length bs) s)))
 
 pub clean-range : {s B : ℕ} → s ≤ B → (bs : List Bool) → InRange B (clean s bs)
 unfolding InRange

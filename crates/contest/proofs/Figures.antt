@@ -10,7 +10,6 @@ use native.Mathlib.Omega.{arith}
 use native.Mathlib.Decide.{decLt}
 use lib.IntN.{ℤ, pos, natAbs, _-ℤ_}
 use lib.ListN.{length}
-use Rattle.signed.specs.Sign.{sign}
 use Rattle.contest.specs.Words.{differ, odd}
 use Rattle.contest.specs.Readings.{InRange, correlation}
 use Rattle.contest.specs.Losses.{weight}

@@ -4,7 +4,6 @@ use mathlib.Core.Path.{_≡_}
 use mathlib.Core.List.{List}
 use Prim.Native.Nat.{ℕ}
 use lib.IntN.{ℤ}
-use Rattle.golay.specs.Answers.{Answer}
 use Rattle.golay.specs.Bytes.{bytesOf}
 use Rattle.golay.specs.Calls.{encodeRule, readRule, syndromeRule, writeBytesRule, readBytesRule}
 use Rattle.hard.specs.Answers.{Correction}

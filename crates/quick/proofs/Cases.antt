@@ -1,7 +1,7 @@
 -- The quick decoder is not the soft decoder: one strong confidence against 23 weak ones, which the soft decoder refuses as tied, it answers
 -- with 0, since the signs lie one position from that codeword.
 -- Assumes nothing.
-use mathlib.Core.Path.{_≡_, refl, sym, ap, _∙_}
+use mathlib.Core.Path.{_≡_, refl, sym, ap}
 use Prim.Native.Nat.{ℕ}
 use lib.Dec.{lit<, lit≤}
 use lib.ListN.{getD}

@@ -17,13 +17,13 @@ use Rattle.contest.specs.Answers.{Accepted, Tied, Answers}
 use Rattle.contest.specs.Answers as contest
 use Rattle.contest.proofs.Bounds.{range-at}
 use Rattle.contest.proofs.Decided.{only-largest}
-use Rattle.contest.proofs.Reserve.{score-size, reserve-positive, reserve-most}
+use Rattle.contest.proofs.Reserve.{score-size, reserve-positive}
 use Rattle.contest.proofs.Sharp.{safe, sharp}
 use Rattle.code.specs.Code.{messages, positions, codewordOf}
 use Rattle.golay.specs.Answers.{Answer, accepted, refused}
 use Rattle.classes.specs.Codewords.{word}
 use Rattle.classes.specs.Classes.{classes, reachedFigure}
-use Rattle.classes.proofs.Codewords.{family, near}
+use Rattle.classes.proofs.Codewords.{family, reserve-within}
 use Rattle.classes.proofs.Figures.{class-reached}
 use Rattle.soft.specs.declared.kinds.Soft.{Soft}
 use Rattle.reading.specs.Checks.{mostNegative}
@@ -83,11 +83,7 @@ module _ {xs : List ℤ} (X : Valid xs) where
     reserve-least = let e = reserve-is in omega (ints, reserve-positive family X (contested r .2))
 
     pub reserve-largest : s .reserve ≤ℤ pos 17179869176
-    reserve-largest =
-        let e = reserve-is in
-        let n = near (s .message .0) accepted-known in
-        let h = rw (n .eight) at (reserve-most family X (contested r .2) (n .message) (n .known) (n .other)) in
-        omega ints
+    reserve-largest = let e = reserve-is in let h = reserve-within X (contested r .2) in omega ints
 
   -- refused with 6 exactly if two codewords share the largest correlation
   pub tied-refused : Tied messages word xs → (a : Answer Soft) → SoftRule xs a → a ≡ refused 6
