@@ -1,4 +1,4 @@
--- What the run over some bytes leaves, and how a capture that comes in pieces is run through.
+-- Rules 12.4 and 13.1 over a part of a capture: what the run over some bytes leaves, and how a capture that comes in pieces is run through.
 use mathlib.Core.Path.{_≡_}
 use mathlib.Core.Bool.{cond}
 use mathlib.Core.List.{List, [], _∷_, _++_}
@@ -20,12 +20,12 @@ pub record Room (offset n buffer : ℕ) : Type 0 where
   pub lines : n + longest ≤ buffer
   pub offsets : offset + n < 2 ^ 64
 
--- the text of the bytes at the start of the buffer, how long it is, and whether the run stopped
+-- Rules 13.1 and 12.4: the text of the bytes at the start of the buffer, how long it is, and whether the run stopped
 pub record Runs (offset : ℕ) (bytes before after : List ℕ) (r : Outcome) : Type 0 where
   pub text : (decode : List ℤ → Answer (ℕ × ℕ)) → Decoder decode → Puts (linesFrom decode offset bytes) before 0 after (r .put)
   pub stopped : r .stopped ≡ stopsFrom offset bytes
 
--- how many of n bytes are whole records
+-- how many of n bytes make up whole records (12.1)
 abbrev pub wholes : ℕ → ℕ
 wholes n = n - n % recordLength
 

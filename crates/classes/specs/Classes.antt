@@ -1,5 +1,5 @@
--- "Class k, 0 to 127, holds the 32 codewords whose message divided by 32 is k": its parity, its characters, and what a reading's columns say
--- for them. Columns are counted from 0 here, and lists of six have the last column first, as they grow from the first column on.
+-- Rules 8.1 to 8.5: a class's parity, its characters, what a reading's columns say for them, and the figure that this comes to. Columns are
+-- counted from 0 here, and lists of six have the last column first, as they grow from the first column on.
 use mathlib.Core.Bool.{Bool}
 use mathlib.Core.List.{List, [], _∷_}
 use Prim.Native.Nat.{ℕ, _*_, _/_, _%_}
@@ -12,41 +12,45 @@ use Rattle.code.specs.Characters.{fourth, fifth, sixth}
 use Rattle.code.specs.Array.{interpretation}
 use Rattle.classes.specs.Codewords.{inPositions}
 
+-- Rule 8.1: a class is a number below this
 abbrev pub classes : ℕ
 classes = 128
 
--- bit 11 of the class's messages
+-- Rules 8.1 and 3.2: the parity of class k, which is bit 11 of its messages
 abbrev pub parityOf : ℕ → ℕ
 parityOf k = k / 64 % 2
 
--- bits 10-9, 8-7, 6-5 of the class's messages, and the three characters that follow from them
+-- Rule 2.1: the hexacodeword of a, b and c, its last character first
 abbrev pub sixCharacters : ℕ → ℕ → ℕ → List ℕ
 sixCharacters a b c = sixth a b c ∷ fifth a b c ∷ fourth a b c ∷ c ∷ b ∷ a ∷ []
 
+-- Rules 8.1 and 3.2: the characters of class k, by the a, b and c that its messages hold in their bits 10 down to 5
 unfoldable pub charactersOf : ℕ → List ℕ
 charactersOf k = sixCharacters (k / 16 % 4) (k / 4 % 4) (k % 4)
 
--- a parity's and a character's interpretation with top bit 0, top to bottom
+-- Rule 8.3: of the interpretations with parity p and character x the one with top bit 0, as four bits from the top
 abbrev pub topZero : ℕ → ℕ → List Bool
 topZero p x = inPositions 4 (interpretation p x 0)
 
--- what column i of a reading says for it; for the interpretation with top bit 1 it says the opposite
+-- Rule 8.3: its correlation with column i of a reading; that of the one with top bit 1 has the opposite sign
 unfoldable pub columnSum : List ℤ → ℕ → ℕ → ℕ → ℤ
 columnSum xs i p x = correlation (topZero p x) (take 4 (drop (4 * i) xs))
 
+-- Rule 8.3: the sums of as many columns as there are characters
 abbrev pub columnSums : List ℤ → ℕ → List ℕ → List ℤ
 columnSums xs p [] = []
 columnSums xs p (x ∷ cs) = columnSum xs (length cs) p x ∷ columnSums xs p cs
 
--- the six sums of class k
+-- Rule 8.3: the six sums of class k
 abbrev pub classSums : List ℤ → ℕ → List ℤ
 classSums xs k = columnSums xs (parityOf k) (charactersOf k)
 
--- a class's figure as it is reached from its sums: the six sizes added, and twice the least taken off where the favoured interpretations
--- break the top row rule, that is where the signs have not the class's parity
+-- Rules 8.4 and 8.5: a class's figure as it is reached from its sums: the six sizes added, and twice the least taken off where the signs, so
+-- the favoured top bits, have not the class's parity
 abbrev pub reachedOf : Bool → List ℤ → ℤ
 reachedOf p [] = pos 0
 reachedOf p (f ∷ fs) = reached p f fs
 
+-- Rule 8.4: the reached figure of class k
 unfoldable pub reachedFigure : List ℤ → ℕ → ℤ
 reachedFigure xs k = reachedOf (eqb (parityOf k) 1) (classSums xs k)

@@ -1,4 +1,4 @@
--- Document 01, "The array and its characters": the characters 0, 1, w, v by their numbers 0, 1, 2, 3, and the hexacode of Conway and Sloane.
+-- Rules 1.6 to 1.8 and 2.1: the four characters by their numbers, how they are added and multiplied, and the hexacode of Conway and Sloane.
 use mathlib.Core.List.{List, [], _∷_}
 use Prim.Native.Nat.{ℕ, _+_, _*_}
 use lib.Bits.{bitXor}
@@ -6,25 +6,26 @@ use lib.ListN.{getD}
 
 infixl 65 _⊕_
 infixl 70 _⊗_
+-- Rule 1.6: the numbers of w and v; 0 and 1 are their own
 abbrev pub w : ℕ
 w = 2
 
 abbrev pub v : ℕ
 v = 3
 
--- "Adding characters is exclusive or of their numbers."
+-- Rule 1.7: the sum is the exclusive or
 abbrev pub _⊕_ : ℕ → ℕ → ℕ
 a ⊕ b = bitXor a b
 
--- "0 times anything is 0, 1 changes nothing, ww = v, wv = 1, vv = w."
--- Four products in a row: by 0, by 1, by w, by v.
+-- Rule 1.8's table, its rows one after another: by 0, by 1, by w, by v
 abbrev pub products : List ℕ
 products = 0 ∷ 0 ∷ 0 ∷ 0 ∷ 0 ∷ 1 ∷ w ∷ v ∷ 0 ∷ w ∷ v ∷ 1 ∷ 0 ∷ v ∷ 1 ∷ w ∷ []
 
+-- Rule 1.8: the product
 abbrev pub _⊗_ : ℕ → ℕ → ℕ
 a ⊗ b = getD products (a * 4 + b) 0
 
--- "A hexacodeword is (a, b, c, a+b+c, av+bw+c, aw+bv+c) for characters a, b, c."
+-- Rule 2.1: the last three characters of a hexacodeword, by its first three
 abbrev pub fourth : ℕ → ℕ → ℕ → ℕ
 fourth a b c = a ⊕ b ⊕ c
 
@@ -34,5 +35,6 @@ fifth a b c = a ⊗ v ⊕ b ⊗ w ⊕ c
 abbrev pub sixth : ℕ → ℕ → ℕ → ℕ
 sixth a b c = a ⊗ w ⊕ b ⊗ v ⊕ c
 
+-- Rule 2.1: all six
 abbrev pub hexacodeword : ℕ → ℕ → ℕ → List ℕ
 hexacodeword a b c = a ∷ b ∷ c ∷ fourth a b c ∷ fifth a b c ∷ sixth a b c ∷ []

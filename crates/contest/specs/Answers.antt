@@ -1,4 +1,4 @@
--- What a reading is answered by, in a family of N words.
+-- Rules 7.1, 7.2 and 7.4: what a reading is answered by, in a family of N words.
 use mathlib.Core.Path.{_≡_}
 use mathlib.Core.Logic.{_≢_}
 use mathlib.Core.Bool.{Bool}
@@ -9,8 +9,7 @@ use lib.Signed.{_<ℤ_}
 use Rattle.contest.specs.Readings.{scores}
 use Rattle.contest.specs.Largest.{Largest, Next}
 
--- "The soft answer is the only codeword with the largest correlation, .. and the reserve: half the difference between the largest
--- correlation and the largest among the other" words
+-- Rules 7.1 and 7.2: word m has a larger correlation than each other, and it exceeds the largest that any other has by twice the reserve ρ
 pub record Accepted (N : ℕ) (word : ℕ → List Bool) (xs : List ℤ) (m ρ : ℕ) : Type 0 where
   pub known : m < N
   pub only : (k : ℕ) → k < N → k ≢ m → scores word xs k <ℤ scores word xs m
@@ -18,7 +17,7 @@ pub record Accepted (N : ℕ) (word : ℕ → List Bool) (xs : List ℤ) (m ρ :
   pub next : Next (scores word xs) 0 N m runner
   pub half : scores word xs m -ℤ scores word xs runner ≡ pos (2 * ρ)
 
--- "two codewords share the largest correlation"
+-- Rule 7.4: two words that are not the same have the largest correlation
 pub record Tied (N : ℕ) (word : ℕ → List Bool) (xs : List ℤ) : Type 0 where
   pub one : ℕ
   pub other : ℕ
@@ -31,6 +30,7 @@ pub data Answer : Type 0 where
   accepted : ℕ → ℕ → Answer
   tied : Answer
 
+-- what an answer says of a reading
 abbrev pub Answers : ℕ → (ℕ → List Bool) → List ℤ → Answer → Type 0
 Answers N word xs (accepted m ρ) = Accepted N word xs m ρ
 Answers N word xs tied = Tied N word xs

@@ -5,6 +5,7 @@ use Prim.Native.Nat.{ℕ, _+_}
 use lib.IntN.{ℤ, natAbs}
 use Rattle.signed.specs.Sign.{lo, signed}
 
+-- the sizes of the confidences that speak against the word's bit, added
 abbrev pub loss : List Bool → List ℤ → ℕ
 loss [] xs = 0
 loss (b ∷ bs) [] = 0

@@ -5,14 +5,16 @@ use Prim.Native.Nat.{ℕ, zero, suc, _+_, _*_, _/_, _%_}
 use lib.Dec.{eqb}
 use Rattle.contest.specs.Words.{differ, one, odd}
 
+-- the number of a word
 abbrev pub val : List Bool → ℕ
 val [] = 0
 val (b ∷ bs) = 2 * val bs + one b
 
+-- the n lowest bits of a number
 abbrev pub bits : ℕ → ℕ → List Bool
 bits zero w = []
 bits (suc n) w = eqb (w % 2) 1 ∷ bits n (w / 2)
 
--- the word of n bits and one in front, of parity p
+-- the word of n bits and one in front that brings its parity to p, as rule 3.3 has it for column 6
 abbrev pub tops : ℕ → Bool → ℕ → List Bool
 tops n p j = differ p (odd (bits n j)) ∷ bits n j

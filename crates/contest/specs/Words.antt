@@ -15,18 +15,18 @@ differ true true = false
 abbrev pub one : Bool → ℕ
 one b = cond b 1 0
 
--- the parity of a word
+-- the parity of a word, as rule 1.5 has it of a column
 abbrev pub odd : List Bool → Bool
 odd [] = false
 odd (b ∷ bs) = differ b (odd bs)
 
--- in how many positions two words differ
+-- Rule 5.1: in how many positions two words differ
 unfoldable pub distance : List Bool → List Bool → ℕ
 distance [] cs = 0
 distance (b ∷ bs) [] = 0
 distance (b ∷ bs) (c ∷ cs) = one (differ b c) + distance bs cs
 
--- N words of n bits, at least two and no two the same
+-- N words of n bits, at least two and no two the same, as the 4,096 codewords are
 pub record Family (N n : ℕ) (word : ℕ → List Bool) : Type 0 where
   pub two : 2 ≤ N
   pub long : (m : ℕ) → m < N → length (word m) ≡ n

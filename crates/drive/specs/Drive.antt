@@ -1,4 +1,4 @@
--- What a call for C hands back: it returns 0 where it answers, else the refusal number, and writes its outputs only where it answers.
+-- Rules 11.4 and 11.5 for C: a call returns 0 where it answers, else the refusal's number, and writes its outputs only where it answers.
 use mathlib.Core.Path.{_≡_}
 use mathlib.Core.List.{List}
 use Prim.Native.Nat.{ℕ}
@@ -9,15 +9,17 @@ use Rattle.hard.specs.Calls.{WritesCandidates}
 use Rattle.soft.specs.declared.kinds.Soft.{Soft}
 
 module _ {A : Type 0} where
+  -- Rule 11.4: the number of a refusal; 0, which is none, stands for an answer
   abbrev pub returned : Answer A → ℕ
   returned (accepted x) = 0
   returned (refused n) = n
 
-  -- what an output holds afterwards: what the values make of it, or what it held before
+  -- Rule 11.5: what an output holds afterwards: what the values make of it, or what it held before
   abbrev pub output : {M : Type 0} → (A → M) → Answer A → M → M
   output made (accepted x) before = made x
   output made (refused n) before = before
 
+-- what a call returned, and what its outputs held before and hold after it
 pub record HandsBack {A M : Type 0} (answer : Answer A) (made : A → M) (before after : M) (status : ℕ) : Type 0 where
   pub status-is : status ≡ returned answer
   pub output-is : after ≡ output made answer before
@@ -44,7 +46,7 @@ values message codeword correlation reserve = record {
   reserve = reserve;
 }
 
--- the candidate call: its status, and what the slots hold
+-- Rules 5.7, 5.8 and 11.5: the candidate call's status, and what the slots hold
 pub record HandsBackCandidates (word : ℕ) (before after : List ℕ) (status : ℕ) : Type 0 where
   pub answer : Answer (Unit {0})
   pub writes : WritesCandidates word before answer after

@@ -1,4 +1,4 @@
--- An answer in the words of document 01, for every call: values, or the number of a refusal. Each call's own answer is read as one here.
+-- Rules 11.2, 11.4, 11.5 and 15.5: an answer of any call is values, or the number of a refusal. Each call's own answer is read as one here.
 use mathlib.Core.Path.{_≡_}
 use mathlib.Core.Bool.{Bool, true, false}
 use Prim.Native.Nat.{ℕ}
@@ -17,13 +17,13 @@ use Rattle.golay.specs.declared.kinds.ReadBytesAnswer.{ReadBytesAnswer}
 use Rattle.golay.specs.declared.kinds.ReadBytesAnswer.the-variants as bytes
 use Rattle.golay.specs.Refusals.{number}
 
--- "A refusal returns its number alone."
+-- Rule 11.4: values, or a number and no value beside it
 pub data Answer (A : Type 0) : Type 0 where
   accepted : A → Answer A
   refused : ℕ → Answer A
 
 module _ {A : Type 0} where
-  -- where the test holds, the refusal; else what comes next. The order of the tests is the order of the document.
+  -- Rule 11.2: where the test holds, the refusal; else what comes next. The order of the tests is the order of the refusals.
   abbrev pub refuse : Refusal → Bool → Answer A → Answer A
   refuse reason true next = refused (number reason)
   refuse reason false next = next
@@ -33,12 +33,12 @@ module _ {A : Type 0} where
   Refuse reason true Next answer = answer ≡ refused (number reason)
   Refuse reason false Next answer = Next answer
 
-  -- what lent memory holds after the call: "all lent memory keeps its contents" on a refusal
+  -- Rule 11.5: what lent memory holds after the call: on a refusal, what it held before
   abbrev pub lent : {M : Type 0} → Answer A → M → M → M
   lent (accepted x) before after = after
   lent (refused n) before after = before
 
--- the answers of the calls: number and values for every case
+-- Rule 15.5: the answers of the calls, each case by its values or its number
 abbrev pub encodeAnswer : EncodeAnswer → Answer ℕ
 encodeAnswer (encode.Accepted codeword) = accepted (codeword .0)
 encodeAnswer (encode.Refused reason) = refused (number reason)

@@ -1,4 +1,4 @@
--- What each call answers, for every input, its refusals in document 01's order: "Lengths first, then 2, 3, 4 and 11, then 5, then the rest."
+-- Rule 11.3: what each call answers, for every input, its refusals in the order of rule 11.2.
 use mathlib.Core.Path.{_≡_}
 use mathlib.Core.Bool.{Bool, not, _||_}
 use mathlib.Core.List.{List}
@@ -11,38 +11,46 @@ use Rattle.golay.specs.declared.kinds.Refusal.the-variants.{WrongLength,
 use Rattle.golay.specs.Answers.{Answer, accepted, refuse, lent}
 use Rattle.golay.specs.Bytes.{bytesOf, wordOf}
 
+-- Rule 11.1, number 3: a message exceeds 4,095
 abbrev pub messageAbove : ℕ → Bool
 messageAbove m = leb messages m
 
+-- Rule 11.1, number 4: a word exceeds 16,777,215
 abbrev pub wordAbove : ℕ → Bool
 wordAbove word = leb words word
 
--- "a reading isn't 24 long, a codeword buffer isn't 3 bytes, or the slots aren't six"
+-- Rule 11.1, number 1: lent memory has other than n places
 abbrev pub wrongLength : {A : Type 0} → ℕ → List A → Bool
 wrongLength n lent = not (eqb (length lent) n)
 
+-- Rule 11.3, encode: 3, or the codeword (3.4)
 unfoldable pub encodeRule : ℕ → Answer ℕ
 encodeRule m = refuse MessageAbove (messageAbove m) (accepted (codewordOf m))
 
+-- Rule 11.3, read: 4, then 5, or the message (3.5)
 unfoldable pub readRule : ℕ → Answer ℕ
 readRule word = refuse WordAbove (wordAbove word) (refuse NotCodeword (not (isCodeword word)) (accepted (messageOf word)))
 
+-- Rule 11.3, syndrome: 4, or the syndrome (4.1)
 unfoldable pub syndromeRule : ℕ → Answer ℕ
 syndromeRule word = refuse WordAbove (wordAbove word) (accepted (syndromeOf word))
 
+-- Rule 11.3, distance: 4 for either word, or the distance (5.1)
 unfoldable pub distanceRule : ℕ → ℕ → Answer ℕ
 distanceRule a b = refuse WordAbove (wordAbove a || wordAbove b) (accepted (distance 24 a b))
 
+-- Rule 11.3, write bytes: 1, then 4, then 5, or no refusal
 unfoldable pub writeBytesRule : ℕ → List ℕ → Answer (Unit {0})
 writeBytesRule word buffer =
     refuse WrongLength (wrongLength 3 buffer)
     (refuse WordAbove (wordAbove word) (refuse NotCodeword (not (isCodeword word)) (accepted tt)))
 
--- the answer, and the buffer's contents before and after the call
+-- Rules 10.2 and 11.5: the answer, and the buffer's contents before and after the call
 pub record WritesBytes (word : ℕ) (before : List ℕ) (answer : Answer (Unit {0})) (after : List ℕ) : Type 0 where
   pub answered : answer ≡ writeBytesRule word before
   pub buffer : after ≡ lent answer before (bytesOf word)
 
+-- Rule 11.3, read bytes: 1, then 5, or the codeword (10.3)
 unfoldable pub readBytesRule : List ℕ → Answer ℕ
 readBytesRule bytes =
     refuse WrongLength (wrongLength 3 bytes) (refuse NotCodeword (not (isCodeword (wordOf bytes))) (accepted (wordOf bytes)))

@@ -1,4 +1,4 @@
--- What a column's ones add to the syndrome, as the code adds it up from the column's four rows. No promise of a call cites it.
+-- What a column's ones add to the syndrome (4.1), as the code adds it up from the column's four rows. No promise of a call cites it.
 use mathlib.Core.List.{List, [], _∷_}
 use Prim.Native.Nat.{ℕ}
 use lib.ListN.{getD}

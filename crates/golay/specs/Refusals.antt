@@ -1,28 +1,28 @@
--- Document 01, "Refusal numbers and their order": the number of each reason.
+-- Rule 11.1: the number of each reason, and when it applies.
 use Prim.Native.Nat.{ℕ}
 use Rattle.golay.specs.declared.kinds.Refusal.{Refusal}
 use Rattle.golay.specs.declared.kinds.Refusal.the-variants.{WrongLength, MostNegative, MessageAbove, WordAbove, NotCodeword, Tied, DistanceFour, NotDistanceFour, NoMark, CutShort, ClassAbove}
 
 abbrev pub number : Refusal → ℕ
--- a reading isn't 24 long, a codeword buffer isn't 3 bytes, or the slots aren't six
+-- a reading has other than 24 confidences, a buffer for a codeword other than 3 bytes, or the slots for candidates are other than 6
 number WrongLength = 1
--- a confidence is -2,147,483,648
+-- some confidence equals -2,147,483,648
 number MostNegative = 2
--- a message is above 4,095
+-- a message exceeds 4,095
 number MessageAbove = 3
--- a word is above 16,777,215
+-- a word exceeds 16,777,215
 number WordAbove = 4
--- a valid word handed in for reading or byte writing isn't a codeword
+-- a word of 24 bits that is to be read, or to be written as bytes, is no codeword
 number NotCodeword = 5
--- tied, in the soft or quick sense
+-- no one word is best (7.4, 9.5)
 number Tied = 6
--- correction at distance 4
+-- a word to be corrected is at distance 4 from the code
 number DistanceFour = 7
--- candidates asked for at a distance other than 4
+-- a word whose candidates are wanted is nearer to the code than 4
 number NotDistanceFour = 8
--- at a record's start two or more bytes are left and the first two aren't the mark
+-- a record begins without the mark (12.3)
 number NoMark = 9
--- at a record's start one byte is left, or the mark stands and the record is cut short
+-- a record is not there as a whole (12.3)
 number CutShort = 10
--- a class number is above 127
+-- a class number exceeds 127
 number ClassAbove = 11

@@ -1,5 +1,5 @@
--- What each call answers, for every input, its refusals in document 01's order: "Lengths first, then 2, 3, 4 and 11, then 5, then the rest."
--- Both go by the pattern of the word's syndrome.
+-- Rule 11.3: what each call answers, for every input, its refusals in the order of rule 11.2. Both go by the ones of the word's error
+-- pattern, its distance from the code (5.4).
 use mathlib.Core.Path.{_≡_}
 use mathlib.Core.Bool.{not}
 use mathlib.Core.List.{List}
@@ -15,28 +15,30 @@ use Rattle.patterns.specs.Patterns.{IsPattern}
 use Rattle.hard.specs.Answers.{Correction}
 use Rattle.hard.specs.Candidates.{Candidates}
 
--- "At 0 to 3 .. correction returns it and the distance. At 4 correction refuses with 7"
+-- Rules 5.5 and 5.6: 4, then 7 where the distance is 4, or the exclusive or of word and pattern, and the distance
 unfoldable pub correctRule : ℕ → ℕ → Answer Correction
 correctRule word pattern =
     refuse WordAbove (wordAbove word)
     (refuse DistanceFour (eqb (ones 24 pattern) 4) (accepted (record { codeword = bitXor word pattern; distance = ones 24 pattern })))
 
+-- Rule 11.3, correct: by the error pattern (5.2) of the word's syndrome
 pub record Corrects (word : ℕ) (answer : Answer Correction) : Type 0 where
   pub pattern : ℕ
   pub rule : IsPattern (syndromeOf word) pattern
   pub answered : answer ≡ correctRule word pattern
 
--- "At any other distance the candidate call refuses with 8."
+-- Rules 5.7 and 5.8: 1, then 4, then 8 where the distance is not 4, or no refusal
 unfoldable pub candidatesRule : ℕ → ℕ → List ℕ → Answer (Unit {0})
 candidatesRule word pattern slots =
     refuse WrongLength (wrongLength 6 slots)
     (refuse WordAbove (wordAbove word) (refuse NotDistanceFour (not (eqb (ones 24 pattern) 4)) (accepted tt)))
 
--- what the slots hold after the call: the candidates, or on a refusal what they held before
+-- Rules 5.7 and 11.5: what the slots hold after the call: the candidates, or on a refusal what they held before
 abbrev pub SlotsHold : {A : Type 0} → ℕ → Answer A → List ℕ → List ℕ → Type 0
 SlotsHold word (accepted x) before after = Candidates word after
 SlotsHold word (refused n) before after = after ≡ before
 
+-- Rule 11.3, candidates: by the error pattern (5.2) of the word's syndrome
 pub record WritesCandidates (word : ℕ) (before : List ℕ) (answer : Answer (Unit {0})) (after : List ℕ) : Type 0 where
   pub pattern : ℕ
   pub rule : IsPattern (syndromeOf word) pattern

@@ -1,4 +1,4 @@
--- Document 01, "Hard correction": "At 4 .. exactly six codewords stand at distance 4; the candidate call writes them in ascending order".
+-- Rule 5.7: the six candidates of a word at distance 4 from the code, the least first.
 use mathlib.Core.Path.{_≡_}
 use mathlib.Core.List.{List, [], _∷_, List·Memᴰ}
 use Prim.Native.Nat.{ℕ, _<_}
@@ -17,20 +17,20 @@ abbrev pub Ascending : List ℕ → Type 0
 Ascending [] = Unit {0}
 Ascending (c ∷ cs) = ((d : ℕ) → d ∈ cs → c < d) × Ascending cs
 
--- a codeword at distance 4 from a word
+-- Rule 5.7: a codeword at distance 4 from a word
 pub record Candidate (word c : ℕ) : Type 0 where
   pub short : c < words
   pub codeword : T (isCodeword c)
   pub apart : distance 24 word c ≡ 4
 
--- all candidates of a word, in ascending order
+-- Rule 5.7: all candidates of a word, which are six, the least first
 pub record Candidates (word : ℕ) (cs : List ℕ) : Type 0 where
   pub six : length cs ≡ 6
   pub ascending : Ascending cs
   pub each : (c : ℕ) → c ∈ cs → Candidate word c
   pub every : (c : ℕ) → Candidate word c → c ∈ cs
 
--- a word at distance four from the code, and its syndrome
+-- Rule 5.4: a word at distance 4 from the code, and its syndrome
 pub record AtFour (word s : ℕ) : Type 0 where
   pub within : word < words
   pub syndrome : s ≡ syndromeOf word

@@ -1,4 +1,4 @@
--- Document 01, "Capture program": the text of each line, "each line ended by a line feed".
+-- Rules 13.1 to 13.6: the text of each line, its line feed included.
 use mathlib.Core.Bool.{cond}
 use mathlib.Core.List.{List, _++_}
 use Prim.Native.Nat.{ℕ, zero, suc, _/_}
@@ -12,13 +12,15 @@ abbrev pub placesIn : ℕ → ℕ → ℕ
 placesIn zero n = 1
 placesIn (suc fuel) n = cond (ltb n 10) 1 (suc (placesIn fuel (n / 10)))
 
--- "in decimal", with no zero in front: as many digits as n has
+-- Rule 13.6: as many decimal digits as n has, so no zero stands in front
 unfoldable pub decimal : ℕ → List ℕ
 decimal n = digits 10 (placesIn n n) n
 
+-- Rule 13.1: what every line ends with
 abbrev pub lineFeed : List ℕ
 lineFeed = ascii "\n"
 
+-- Rule 13.2: the header
 abbrev pub header : List ℕ
 header = ascii "message reserve\n"
 
@@ -29,19 +31,19 @@ lineOf word n = word ++ decimal n ++ lineFeed
 abbrev pub lineOfTwo : List ℕ → ℕ → List ℕ → ℕ → List ℕ
 lineOfTwo word m between n = word ++ decimal m ++ between ++ decimal n ++ lineFeed
 
--- "0 8"
+-- Rule 13.3, as in "0 8"
 abbrev pub acceptedLine : ℕ → ℕ → List ℕ
 acceptedLine message reserve = lineOfTwo (ascii "") message (ascii " ") reserve
 
--- "refused 6"
+-- Rule 13.4, as in "refused 6"
 abbrev pub refusedLine : ℕ → List ℕ
 refusedLine number = lineOf (ascii "refused ") number
 
--- "stopped 10 at 196"
+-- Rule 13.5, as in "stopped 10 at 196"
 abbrev pub stoppedLine : ℕ → ℕ → List ℕ
 stoppedLine number offset = lineOfTwo (ascii "stopped ") number (ascii " at ") offset
 
--- the line of an answer: message and reserve, or the number of the refusal
+-- Rules 13.3 and 13.4: the line of an answer: message and reserve, or the number of the refusal
 abbrev pub answerLine : Answer (ℕ × ℕ) → List ℕ
 answerLine (accepted x) = acceptedLine (x .0) (x .1)
 answerLine (refused n) = refusedLine n

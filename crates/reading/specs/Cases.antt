@@ -1,4 +1,4 @@
--- Three worked readings: 24 ones, 24 zeros, and one strong confidence against 23 weak ones.
+-- Three of the worked readings of rule 16.6: 24 ones, 24 zeros, and one strong confidence against 23 weak ones.
 use mathlib.Core.List.{List, _∷_}
 use lib.IntN.{ℤ, pos, negsuc}
 use lib.ListN.{replicate}
@@ -10,6 +10,6 @@ allOnes = replicate positions (pos 1)
 abbrev pub allZeros : List ℤ
 allZeros = replicate positions (pos 0)
 
--- position 1 at -100, the others at 1
+-- position 1 is -100, the rest 1
 abbrev pub oneAgainst : List ℤ
 oneAgainst = negsuc 99 ∷ replicate 23 (pos 1)

@@ -1,4 +1,4 @@
--- The whole output of a capture, as a function of its bytes, over any decoder: what a reading is answered by.
+-- Rules 12.2 to 12.4 and 13.1: all that a capture's run prints, as a function of its bytes, over any decoder: what a reading is answered by.
 use mathlib.Core.Bool.{Bool, true, false}
 use mathlib.Core.List.{List, [], _++_}
 use Prim.Native.Nat.{ℕ, zero, suc, _+_}
@@ -15,13 +15,13 @@ pub record Telling (A : Type 0) : Type 0 where
   pub atRecord : List ℤ → A → A
 
 module _ {A : Type 0} (t : Telling A) where
-  -- the run from a record's start, at an offset of the capture; later is the run after a whole record
+  -- Rules 12.3 and 12.4: the run from a record's start, at an offset of the capture; later is the run after a whole record
   abbrev pub runAt : ℕ → A → Standing (List ℤ) → A
   runAt offset later ended = t .atEnd
   runAt offset later (stopped n) = t .atStop n offset
   runAt offset later (whole reading) = t .atRecord reading later
 
-  -- over at most fuel records
+  -- Rule 12.2: each further record starts right after the one before; at most fuel records
   unfoldable pub runIn : ℕ → ℕ → List ℕ → A
   runIn zero offset left = t .atEnd
   runIn (suc fuel) offset left = runAt offset (runIn fuel (offset + recordLength) (drop recordLength left)) (standing left)
@@ -30,7 +30,7 @@ module _ {A : Type 0} (t : Telling A) where
   abbrev pub runFrom : ℕ → List ℕ → A
   runFrom offset left = runIn (length left) offset left
 
--- "Numbers 9 and 10 stop the run."
+-- Rule 12.4: whether the run stops, with 9 or 10
 abbrev pub stopping : Telling Bool
 stopping = record { atEnd = false; atStop = λ n offset. true; atRecord = λ reading later. later }
 
@@ -38,13 +38,13 @@ abbrev pub stopsFrom : ℕ → List ℕ → Bool
 stopsFrom = runFrom stopping
 
 module _ (decode : List ℤ → Answer (ℕ × ℕ)) where
-  -- one line for each record, and a line where the run stopped
+  -- Rule 13.1: one line for each record, and a line where the run stopped
   abbrev pub lines : Telling (List ℕ)
   lines = record { atEnd = []; atStop = stoppedLine; atRecord = λ reading later. answerLine (decode reading) ++ later }
 
   abbrev pub linesFrom : ℕ → List ℕ → List ℕ
   linesFrom = runFrom lines
 
-  -- "the whole output"
+  -- Rule 13.1: the header, and the run's lines from offset 0 on (12.2)
   abbrev pub output : List ℕ → List ℕ
   output bytes = header ++ linesFrom 0 bytes

@@ -1,4 +1,4 @@
--- Document 01, "Capture program": "a capture of a reading of 24 ones, a reading of 24 zeros and a single byte 49", and "the whole output".
+-- Rule 13.7: the worked capture, and its output.
 use mathlib.Core.List.{List, [], _∷_, _++_}
 use Prim.Native.Nat.{ℕ, zero, suc}
 use Rattle.code.specs.Code.{positions}
@@ -9,12 +9,14 @@ abbrev pub repeated : ℕ → ℕ → List ℕ
 repeated zero value = []
 repeated (suc n) value = 0 ∷ 0 ∷ 0 ∷ value ∷ repeated n value
 
--- the record of a reading of one value
+-- Rule 12.1: the record of a reading of one value
 abbrev pub recordOf : ℕ → List ℕ
 recordOf value = 0x49 ∷ 0x43 ∷ repeated positions value
 
+-- Rule 13.7: a record of 1s, a record of 0s, and half a mark
 unfoldable pub capture : List ℕ
 capture = recordOf 1 ++ recordOf 0 ++ (0x49 ∷ [])
 
+-- Rule 13.7: its four lines
 unfoldable pub captureText : List ℕ
 captureText = ascii "message reserve\n0 8\nrefused 6\nstopped 10 at 196\n"

@@ -3,7 +3,7 @@ use mathlib.Core.Bool.{Bool, true, false}
 use Prim.Native.Nat.{ℕ, suc}
 use lib.IntN.{ℤ, pos, negsuc, negℤ}
 
--- 1 exactly for a negative number
+-- 1 exactly for a negative number: the bit that a confidence (9.2) or a sum (8.3) speaks for, a zero's being 0
 abbrev pub sign : ℤ → Bool
 sign (pos n) = false
 sign (negsuc n) = true
@@ -17,7 +17,7 @@ abbrev pub lo : ℤ → ℕ
 lo (pos n) = 0
 lo (negsuc n) = suc n
 
--- a number, negated where the bit is 1
+-- Rule 6.4: a number, negated where the bit is 1
 abbrev pub signed : Bool → ℤ → ℤ
 signed false x = x
 signed true x = negℤ x

@@ -1,5 +1,4 @@
--- What the soft calls answer, for every reading, their refusals in document 01's order: "Lengths first, then 2, 3, 4 and 11, then 5, then
--- the rest."
+-- Rule 11.3: what the soft calls answer, for every reading, their refusals in the order of rule 11.2.
 use mathlib.Core.Path.{_≡_}
 use mathlib.Core.Bool.{Bool}
 use mathlib.Core.List.{List}
@@ -20,11 +19,11 @@ use Rattle.classes.specs.Codewords.{word}
 use Rattle.classes.specs.Classes.{classes}
 use Rattle.soft.specs.declared.kinds.Soft.{Soft}
 
--- "a class number is above 127"
+-- Rule 11.1, number 11: a class number exceeds 127
 abbrev pub classAbove : ℕ → Bool
 classAbove k = leb classes k
 
--- "The soft answer is the only codeword with the largest correlation, its message, that correlation, and the reserve"
+-- Rules 7.1 and 7.2: the codeword of message m with this message, its correlation and its reserve ρ
 abbrev pub values : List ℤ → ℕ → ℕ → Soft
 values xs m ρ = record {
   message = record { 0 = m };
@@ -33,26 +32,28 @@ values xs m ρ = record {
   reserve = pos ρ;
 }
 
--- "If two codewords share the largest correlation the answer is refusal 6."
+-- Rules 7.1 and 7.4: the values, or refusal 6 where the reading is tied
 abbrev pub told : List ℤ → contest.Answer → Answer Soft
 told xs (contest.accepted m ρ) = accepted (values xs m ρ)
 told xs contest.tied = refused (number Tied)
 
--- the answer is that of the contest of the 4,096 codewords
+-- Rules 7.1 and 7.4: the answer to a valid reading is that of the contest of the 4,096 codewords
 pub record Decides (xs : List ℤ) (answer : Answer Soft) : Type 0 where
   pub outcome : contest.Answer
   pub answers : Answers messages word xs outcome
   pub is : answer ≡ told xs outcome
 
+-- Rule 11.3, soft: 1, then 2, or what the contest decides, 6 included
 unfoldable pub SoftRule : List ℤ → Answer Soft → Type 0
 SoftRule xs = Refuse WrongLength (wrongLength positions xs) (Refuse MostNegative (mostNegative xs) (Decides xs))
 
--- "Its figure is the largest correlation in the class": among the 32 codewords from message 32 k on
+-- Rules 8.1 and 8.2: the largest of 32 correlations, those of the codewords from message 32 k on
 pub record HasFigure (xs : List ℤ) (k : ℕ) (answer : Answer ℤ) : Type 0 where
   pub message : ℕ
   pub largest : Largest (scores word xs) (k * 32) (k * 32 + 32) message
   pub is : answer ≡ accepted (scores word xs message)
 
+-- Rule 11.3, class figure: 1, then 2, then 11, or the figure (8.2)
 unfoldable pub ClassFigureRule : List ℤ → ℕ → Answer ℤ → Type 0
 ClassFigureRule xs k =
     Refuse WrongLength (wrongLength positions xs) (Refuse MostNegative (mostNegative xs) (Refuse ClassAbove (classAbove k) (HasFigure xs k)))

@@ -1,4 +1,4 @@
--- What the functions over a reading promise: its columns' sums in an array of 48, eight a column.
+-- What the functions over a reading promise: its columns' sums (8.3) in an array of 48, eight a column.
 use mathlib.Core.Path.{_≡_}
 use mathlib.Core.List.{List}
 use Prim.Native.Nat.{ℕ, _+_, _*_, _/_, _%_, _<_}
@@ -14,6 +14,7 @@ pub record PairOf (xs : List ℤ) (n : ℕ) (t : Pair) : Type 0 where
   pub sum : t .sum ≡ getD xs n (pos 0) +ℤ getD xs (n + 1) (pos 0)
   pub difference : t .difference ≡ getD xs n (pos 0) -ℤ getD xs (n + 1) (pos 0)
 
+-- both at most 2^32 in size
 pub record Narrow (t : Pair) : Type 0 where
   pub sum : Within 4294967296 (t .sum)
   pub difference : Within 4294967296 (t .difference)
@@ -35,6 +36,7 @@ SumsWithin s = (j : ℕ) → Within 8589934592 (getD s j (pos 0))
 abbrev pub place : ℕ → ℕ → ℕ → ℕ
 place i p x = i * 8 + p * 4 + x
 
+-- Rule 8.3: every sum stands in its place
 pub record Sums (xs s : List ℤ) : Type 0 where
   pub sums : (i p x : ℕ) → i < 6 → p < 2 → x < 4 → getD s (place i p x) (pos 0) ≡ columnSum xs i p x
   pub within : SumsWithin s

@@ -22,7 +22,7 @@ use Rattle.soft.specs.declared.details.Sizes.{Sizes}
 abbrev pub far : ℕ
 far = 1099511627776
 
--- t is what the columns of sums fs come to
+-- t is what the columns of sums fs come to, so that rules 8.4 and 7.2 can be told from it
 pub record Held (fs : List ℤ) (t : Sizes) : Type 0 where
   pub signs : List Bool
   pub other : List Bool
@@ -63,7 +63,7 @@ abbrev pub front : ℕ → List ℕ → List ℕ
 front zero x = []
 front (suc i) x = getD x i 0 ∷ front i x
 
--- a correlation's bound, and a message
+-- a correlation's bound (6.5), and a message
 pub record Wide (t : Keeper) : Type 0 where
   pub best : Within 51539607528 (t .best)
   pub second : Within 51539607528 (t .second)

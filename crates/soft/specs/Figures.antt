@@ -1,4 +1,4 @@
--- What the scan of the 128 figures promises, over the codes of the 48 sums.
+-- What the scan of the 128 figures (8.4) promises, over the codes of the 48 sums.
 use mathlib.Core.Path.{_≡_}
 use mathlib.Core.List.{List}
 use Prim.Native.Nat.{ℕ, _+_, _*_, _/_, _%_, _≤_, _<_, min}
@@ -64,7 +64,7 @@ lastOf k = 32 + parityOf k * 16 + fifth (k / 16 % 4) (k / 4 % 4) (k % 4) * 4 + s
 abbrev pub Table : (ℕ → ℕ) → List ℕ → Type 0
 Table f t = (k : ℕ) → k < classes → getD t k 0 ≡ f k
 
--- ---- the figure, of the sum of a class's codes and its parity, and of its least code
+-- ---- Rule 8.4: the figure, of the sum of a class's codes and its parity, and of its least code
 
 abbrev pub scored : ℕ → ℕ → ℤ
 scored s l = pos (s / 8) -ℤ pos (2 * (l / 8) * (s % 2))
