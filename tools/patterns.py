@@ -1,6 +1,6 @@
 #!/usr/bin/env python3
-"""The table of 4,096 error patterns of document 01, "Hard correction": for each syndrome the pattern with fewest ones, and of equals the
-smallest as a number.
+"""The table of 4,096 error patterns (rules 5.2 and 15.2): of the words with one syndrome the one with the least number of ones, and where
+several have that number, the least of them as a number.
 
     tools/patterns.py rt           prints crates/hard/src/table.rt
     tools/patterns.py antt         prints crates/patterns/proofs/Table.antt

@@ -27,7 +27,7 @@ use Rattle.reading.specs.Cases.{allOnes, allZeros, oneAgainst}
 use Rattle.classes.proofs.Positions.{distance-positions}
 use Rattle.classes.proofs.Codewords.{word-long, family, near}
 
--- two codewords, as words of bits, differ in at least 8 positions
+-- Rule 2.3: two codewords, as words of bits, stand at distance 8 or more
 pub far-apart : (m k : ℕ) → m < messages → k < messages → k ≢ m → 8 ≤ distance (word m) (word k)
 unfolding word
 far-apart m k hm hk d =

@@ -1,4 +1,4 @@
--- The examples of document 01 that are marked *, by one test over their table.
+-- The worked encodings and syndromes (16.1, 16.2) hold, by one test over their table.
 -- Assumes nothing.
 use mathlib.Core.Bool.{Bool, true, _&&_}
 use mathlib.Core.List.{List, [], _∷_}

@@ -1,5 +1,5 @@
--- The code is closed under exclusive or, and two different codewords differ in at least 8 positions: a computed test of the ones of all
--- codewords but zero.
+-- Rule 2.3: the code is closed under exclusive or, and two codewords that are not the same stand at distance 8 or more, by a computed test of
+-- the ones of all codewords but zero.
 -- Assumes nothing.
 use mathlib.Core.Path.{_≡_, refl, sym, ap, ap₂, _∙_, subst}
 use mathlib.Core.Logic.{_≢_}

@@ -15,7 +15,7 @@ use Rattle.code.specs.Code.{messages, words, isCodeword, codewordOf, mes
 use Rattle.code.proofs.Columns.{Added, side-by-side, parity-read, top-read, projection-read}
 use Rattle.code.proofs.Syndromes.{syndrome-add, syndromeRows, syndrome-rows, codeword-zero, zero-codeword}
 
--- document 01's fixed table, from message 001 up to message 800
+-- Rule 3.6's table, from message 001 up to message 800
 abbrev pub codewordRows : List ℕ
 codewordRows =
     0x0000FF ∷ 0x000F0F ∷ 0x00F00F ∷ 0x0F000F ∷ 0xF0000F ∷ 0x003333 ∷ 0x005555 ∷ 0x030356 ∷ 0x050563 ∷ 0x300365 ∷ 0x500536 ∷ 0x777778 ∷ []

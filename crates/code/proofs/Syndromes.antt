@@ -1,4 +1,4 @@
--- The syndrome of a sum is the sum of the syndromes, so it is a row for each position; and it is zero exactly for codewords.
+-- The syndrome of a sum is the sum of the syndromes (4.3), so it is a row for each position; and the codewords are the words where it is 0 (4.2).
 -- Assumes nothing.
 use mathlib.Core.Path.{_≡_, refl, ap, ap₂, _∙_}
 use mathlib.Core.Bool.{Bool, true, false, _&&_}

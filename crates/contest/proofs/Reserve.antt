@@ -18,13 +18,13 @@ use Rattle.contest.proofs.Bounds.{weight-range, correlation-weight, apa
 use Rattle.contest.proofs.Decided.{at-level}
 
 module _ {B N n : ℕ} {word : ℕ → List Bool} (F : Family N n word) {xs : List ℤ} (X : Reading B n xs) where
-  -- "That difference is always even"
+  -- Rule 7.3: two correlations differ by an even number
   pub even : {m k : ℕ} → m < N → k < N → (z : ℤ) × (scores word xs m -ℤ scores word xs k ≡ pos 2 *ℤ z)
   even {m} {k} hm hk =
       let z = pos (loss (word k) xs) -ℤ pos (loss (word m) xs) in
       (z, parts-eq _ _ (simp parts (omega (arith, at-level F X m hm, at-level F X k hk))))
 
-  -- "Its size is at most" n times B
+  -- Rule 6.5: the size of a correlation is at most n times B
   pub score-size : {m : ℕ} → m < N → Within (n * B) (scores word xs m)
   score-size {m} h =
       let w = weight-range B xs (X .range) in
@@ -42,14 +42,14 @@ module _ {B N n : ℕ} {word : ℕ → List Bool} (F : Family N n word) {xs : Li
         let g = a .next .most k (omega arith) h d in
         omega (ints, margin, at-level F X k h, at-level F X (a .runner) (a .next .below))
 
-    -- "An accepted reserve is at least 1"
+    -- Rule 7.3: a reserve is 1 or more
     pub reserve-positive : 1 ≤ ρ
     reserve-positive =
         let h = a .only (a .runner) (a .next .below) (a .next .other) in
         let e = a .half in
         omega (ints, sub-parts (scores word xs m) (scores word xs (a .runner)))
 
-    -- "and at most" d times B, where another word differs in d positions
+    -- Rule 7.3: and d times B or less, where another word differs in d positions
     pub reserve-most : (k : ℕ) → k < N → k ≢ m → ρ ≤ distance (word m) (word k) * B
     reserve-most k h d =
         let al = align (word m) (word k) xs xs (F .long m (a .known)) (F .long k h) (X .long) (X .long) in

@@ -1,4 +1,4 @@
-// The kinds that must not be passed for one another, the reasons for which a call refuses, and the answer of each call.
+// The three kinds of rule 11.6, the reasons for which a call refuses, and the answer of each call.
 
 // A message, 0 to 4,095; a codeword, below 2^24; a syndrome, below 2^12. None is trusted to be in its range: each call checks its number.
 pub struct Message(pub u32);
@@ -7,7 +7,7 @@ pub struct Codeword(pub u32);
 
 pub struct Syndrome(pub u32);
 
-// The eleven reasons of document 01, in the order of their numbers; specs/Refusals.antt gives each its number.
+// The eleven reasons of rule 11.1, in the order of their numbers; specs/Refusals.antt gives each its number.
 pub enum Refusal {
     WrongLength,
     MostNegative,

@@ -116,7 +116,7 @@ fn word_of(bytes: &[u8]) -> u32
     wide(bytes[0]) * 65_536 + wide(bytes[1]) * 256 + wide(bytes[2])
 }
 
-// The number of a refusal, as document 01 counts them.
+// The number of a refusal (rule 11.1).
 pub fn refusal_number(reason: Refusal) -> u8
     ensures { λ r. ⌜ r ≡ number reason ⌝ }
 {
@@ -195,7 +195,7 @@ pub fn distance(a: u32, b: u32) -> DistanceAnswer
     DistanceAnswer::Accepted(ones(a ^ b))
 }
 
-// Writes a codeword as three bytes, the first position most significant. Refuses 1, then 4, then 5, and then no byte changes.
+// Writes a codeword to three bytes, position 1 most significant. Refuses 1, then 4, then 5, and then no byte changes.
 pub fn write_bytes(word: u32, bytes: &mut [u8]) -> WriteBytesAnswer
     ensures { λ r. ⌜ WritesBytes word (now (bytes .entry)) (writeBytesAnswer r) (now (bytes .exit)) ⌝ }
 {

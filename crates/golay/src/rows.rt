@@ -1,6 +1,6 @@
 // The rows that the code's linear maps add up, one for each bit of a word, its lowest first. Each follows from the definitions in crates/code.
 
-// The codewords of the single-bit messages, from message 001 up to message 800.
+// The twelve codewords of rule 3.6, from message 001 up to message 800.
 pub const CODEWORDS: [u32; 12] = [
     0x0000FF,
     0x000F0F,

@@ -50,7 +50,7 @@ way word p r =
 no-answer : {A : Type 0} {a : A} {n : ℕ} → _≡_ {A = Answer A} (accepted a) (refused n) → ⊥
 no-answer e = let z : _≡_ {A = ℕ} 0 1 = cc in omega arith
 
--- "At 0 to 3 the nearest codeword is the only one at that distance, and correction returns it and the distance."
+-- Rule 5.5: what is answered is a nearest codeword and its distance, and no second codeword is as near
 pub record Corrected (word : ℕ) (c : Correction) : Type 0 where
   pub within : word < words
   pub close : c .distance ≤ 3
@@ -73,7 +73,7 @@ correct-accepted {word} {c} p = by (way word (p .pattern) (p .rule))
           only = only-nearest word (p .pattern) h (p .rule) o;
         })
 
--- a word with a codeword within 3 is corrected to it
+-- Rule 5.5: a word with a codeword within 3 is corrected to it
 pub correct-within :
     {word c : ℕ} {answer : Answer Correction}
     → word < words
@@ -95,7 +95,7 @@ correct-within {word} {c} {answer} h g t l p = by (way word (p .pattern) (p .rul
         p .answered ∙ e
         ∙ sym (ap₂ (λ (x y : ℕ). accepted (record { codeword = x; distance = y })) only (ap (distance 24 word) only ∙ nearest .apart))
 
--- "At 4 correction refuses with 7": no codeword is nearer than 4
+-- Rule 5.6: where the answer is 7, no codeword is nearer than 4
 pub correct-seven : {word : ℕ} → Corrects word (refused 7) → (c : ℕ) → c < words → T (isCodeword c) → 4 ≤ distance 24 word c
 correct-seven {word} p c g t = by (way word (p .pattern) (p .rule))
   where
@@ -106,7 +106,7 @@ correct-seven {word} p c g t = by (way word (p .pattern) (p .rule))
 
 -- ---- candidates
 
--- "exactly six codewords stand at distance 4"
+-- Rule 5.7: a word at distance 4 from the code has six candidates
 pub six-candidates : (word p : ℕ) → word < words → IsPattern (syndromeOf word) p → ones 24 p ≡ 4 → (cs : List ℕ) × Candidates word cs
 six-candidates word p h r o =
     (arrange word (syndromeOf word) 24, arrange-candidates word (syndromeOf word) (record { within = h; syndrome = refl; pattern = p; rule = r; four = o }))
@@ -126,7 +126,7 @@ eight-tests false false false e = (tt, tt)
 not-four : (n : ℕ) → n ≤ 4 → T (not (eqb n 4)) → n ≤ 3
 not-four n h t = ⊎-elim (λ e. absurd (T-not (eqb n 4) t (rw e tt))) (λ l. omega arith) (eq-or-lt-of-le h)
 
--- "At any other distance the candidate call refuses with 8": no codeword stands at distance 4
+-- Rule 5.8: where the answer is 8, no codeword stands at distance 4
 pub candidates-eight : {word : ℕ} {before after : List ℕ} → WritesCandidates word before (refused 8) after → (c : ℕ) → Candidate word c → ⊥
 unfolding candidatesRule
 candidates-eight {word} {before} w c k =

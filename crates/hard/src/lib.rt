@@ -1,5 +1,5 @@
-// Hard correction and the six candidates at distance four, both by the table of error patterns. Each call answers for every input, and its
-// promise decides the whole answer and what the slots hold.
+// Hard correction (rules 5.5 and 5.6) and the candidate call (5.7 and 5.8), both by the table of error patterns. Each call answers for every
+// input, and its promise decides the whole answer and what the slots hold.
 ghost use mathlib.Core.Path.{_≡_};
 ghost use Prim.Native.Nat.{_<_};
 ghost use lib.ListN.{length};
@@ -83,7 +83,7 @@ fn fill(word: u32, s: u32, slots: &mut [u32])
     }
 }
 
-// Writes the six codewords at distance four from a word, in ascending order, to six slots. Refuses 1, then 4, then 8, and then no slot changes.
+// Writes the six codewords at distance four from a word to six slots, the least first. Refuses 1, then 4, then 8, and then no slot changes.
 pub fn candidates(word: u32, slots: &mut [u32]) -> CandidatesAnswer
     ensures { λ r. ⌜ WritesCandidates word (now (slots .entry)) (candidatesAnswer r) (now (slots .exit)) ⌝ }
 {

@@ -71,7 +71,7 @@ fn write_two(word: &[u8], m: u64, between: &[u8], n: u64, out: &mut [u8], at: us
     copy(b"\n", out, s)
 }
 
-// "message reserve"
+// "message reserve" (rule 13.2).
 pub fn write_header(out: &mut [u8], at: usize) -> usize
     ensures { λ r. ⌜ Writes header (now (out .entry)) at (now (out .exit)) r ⌝ }
 {
@@ -81,21 +81,21 @@ pub fn write_header(out: &mut [u8], at: usize) -> usize
     copy(b"message reserve\n", out, at)
 }
 
-// "0 8"
+// As in "0 8" (rule 13.3).
 pub fn write_accepted(message: u32, reserve: u64, out: &mut [u8], at: usize) -> usize
     ensures { λ r. ⌜ Writes (acceptedLine message reserve) (now (out .entry)) at (now (out .exit)) r ⌝ }
 {
     write_two(b"", message as u64, b" ", reserve, out, at)
 }
 
-// "refused 6"
+// As in "refused 6" (rule 13.4).
 pub fn write_refused(number: u8, out: &mut [u8], at: usize) -> usize
     ensures { λ r. ⌜ Writes (refusedLine number) (now (out .entry)) at (now (out .exit)) r ⌝ }
 {
     write_one(b"refused ", number as u64, out, at)
 }
 
-// "stopped 10 at 196"
+// As in "stopped 10 at 196" (rule 13.5).
 pub fn write_stopped(number: u8, offset: u64, out: &mut [u8], at: usize) -> usize
     ensures { λ r. ⌜ Writes (stoppedLine number offset) (now (out .entry)) at (now (out .exit)) r ⌝ }
 {

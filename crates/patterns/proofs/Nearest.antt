@@ -1,5 +1,5 @@
 -- The pattern of a word's syndrome leads to a nearest codeword, so its ones are the least distance to any codeword; and words of one syndrome
--- that have fewer than 8 ones between them are one word, since codewords differ in at least 8 positions.
+-- that have fewer than 8 ones between them are one word, since two codewords stand at distance 8 or more (2.3).
 -- Assumes nothing.
 use mathlib.Core.Path.{_≡_, refl, sym, ap, _∙_}
 use Prim.Native.Nat.{ℕ, zero, suc, _+_, _≤_, _<_}
@@ -42,7 +42,7 @@ error-codeword word e z =
     zero-codeword (bitXor word e) (syndrome-add word e ∙ ap (bitXor (syndromeOf word)) z ∙ xor-self (syndromeOf word))
 
 module _ (word p : ℕ) (h : word < words) (r : IsPattern (syndromeOf word) p) where
-  -- "The distance of a word from the code is the ones in the pattern of its syndrome": it is the least distance to any codeword.
+  -- Rule 5.4: the ones of the pattern are the least distance to any codeword
   pub pattern-nearest : Nearest word (bitXor word p) (ones 24 p)
   pattern-nearest = record {
     short = xor-lt 24 word p h (r .word);
@@ -57,6 +57,6 @@ module _ (word p : ℕ) (h : word < words) (r : IsPattern (syndromeOf word) p) w
       ∙ ap (bitXor word)
       (same-word (bitXor word c) p (xor-lt 24 word c h g) (r .word) (error-syndrome word c t ∙ sym (r .syndrome)) l)
 
-  -- "At 0 to 3 the nearest codeword is the only one at that distance"
+  -- Rule 5.5: at distance 0 to 3 no second codeword is as near
   pub only-nearest : ones 24 p ≤ 3 → (c : ℕ) → c < words → T (isCodeword c) → distance 24 word c ≡ ones 24 p → c ≡ bitXor word p
   only-nearest l c g t e = only-within c g t (omega arith)

@@ -1,5 +1,6 @@
--- The table's rule, proved once over the whole table by two computed tests: each entry has its place as its syndrome and at most four ones;
--- and no word of at most four ones has a key below that of its syndrome's entry. A word with more ones has a larger key in any case.
+-- Rule 15.2: each entry of the table is its syndrome's pattern (5.2), by two computed tests over all of it: each entry has its place as its
+-- syndrome and at most four ones; and no word of at most four ones has a key below that of its syndrome's entry. A word with more ones has a
+-- larger key in any case.
 -- Assumes nothing.
 use mathlib.Core.Path.{_≡_, refl, sym, ap, _∙_, subst}
 use mathlib.Core.Logic.{⊎-elim}
@@ -106,6 +107,6 @@ pattern-unique {s} {x} {y} p q =
     let e : ones 24 x ≡ ones 24 y = le-antisymm (p .fewest y (q .word) (q .syndrome)) (q .fewest x (p .word) (p .syndrome)) in
     le-antisymm (p .smallest y (q .word) (q .syndrome) (sym e)) (q .smallest x (p .word) (p .syndrome) e)
 
--- "Every entry has at most 4 ones."
+-- Rule 5.3: no pattern has more than four ones
 pub pattern-ones : {s p : ℕ} → s < 2 ^ 12 → IsPattern s p → ones 24 p ≤ 4
 pattern-ones {s} h r = rw (pattern-unique r (table-pattern s h)) (tests s h .2)

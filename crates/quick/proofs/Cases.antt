@@ -1,5 +1,5 @@
--- The quick decoder is not the soft decoder: one strong confidence against 23 weak ones, which the soft decoder refuses as tied, it answers
--- with 0, since the signs lie one position from that codeword.
+-- The quick decoder is another than the soft one (9.6): one strong confidence against 23 weak ones, which the soft decoder refuses as tied,
+-- it answers with 0, since the signs lie one position from that codeword.
 -- Assumes nothing.
 use mathlib.Core.Path.{_≡_, refl, sym, ap}
 use Prim.Native.Nat.{ℕ}

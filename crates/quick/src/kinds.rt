@@ -1,4 +1,4 @@
-// The answer of the quick decoder: a codeword alone, with no distance or reserve.
+// The answer of the quick decoder, which has one part, a codeword (rule 9.1).
 use golay::kinds::Codeword;
 use golay::kinds::Refusal;
 

@@ -1,5 +1,5 @@
-// The quick decoder, kept for comparison: the signs as a word, corrected; at distance four the candidate that costs least. It is not the soft
-// decoder and may give another word.
+// The quick decoder, there to be compared with: the signs as a word, corrected; at distance four the candidate that costs least. The soft
+// decoder may answer otherwise (rule 9.6).
 ghost use mathlib.Core.Path.{_≡_};
 ghost use Prim.Native.Nat.{ℕ, _*_, _/_, _%_, _-_, _^_, _<_, _≤_};
 ghost use lib.IntN.{pos, natAbs, negℤ};
@@ -118,7 +118,7 @@ fn chosen(word: u32, reading: &[i32]) -> QuickAnswer
     QuickAnswer::Accepted(Codeword(slots[at]))
 }
 
-// The codeword by source document 003's rule. Refuses 1, then 2, then 6.
+// The quick decoder's codeword (rules 9.3 and 9.4). Refuses 1, then 2, then 6.
 pub fn quick(reading: &[i32]) -> QuickAnswer
     ensures { λ r. ⌜ QuickRule (now (reading .entry)) (quickAnswer r) ⌝ }
 {

@@ -1,4 +1,4 @@
--- The most negative number: a list has it exactly where some place does, and without it an i32 lies in document 01's range.
+-- The most negative number: a list has it exactly where some place does, and without it an i32 lies in the range of rule 6.3.
 use mathlib.Core.Path.{_≡_, refl, ap}
 use mathlib.Core.Logic.{_≢_}
 use mathlib.Core.Bool.{Bool, true, false, _||_}

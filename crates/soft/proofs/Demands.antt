@@ -1,5 +1,5 @@
--- Demands 2 and 3 of the soft decoder, for every answer that its promise allows: the theorems of any family of words, at the 4,096 codewords
--- and document 01's range.
+-- Demands 2 and 3 (14.2, 14.3) of the soft decoder, for every answer that its promise allows: the theorems of any family of words, at the
+-- 4,096 codewords and the range of rule 6.3.
 use mathlib.Core.Path.{_≡_, refl, sym, ap, _∙_}
 use mathlib.Core.Logic.{_≢_}
 use mathlib.Core.Bool.{false}
@@ -32,7 +32,7 @@ use Rattle.reading.proofs.Checking.{none-negative}
 use Rattle.soft.proofs.Rules.{decides-soft, figure-within}
 use Rattle.soft.proofs.Decided.{soft-told, classFigure-once}
 
--- a valid reading: 24 confidences, each from -2,147,483,647 to 2,147,483,647
+-- Rule 6.3: a valid reading
 abbrev pub Valid : List ℤ → Type 0
 Valid xs = Reading 2147483647 positions xs
 
@@ -55,10 +55,10 @@ module _ {xs : List ℤ} (X : Valid xs) where
           (ρ, g ∙ ap (λ (n : ℕ). values xs n ρ) h, rw h at a)
       go contest.tied t e = let z : _≡_ {A = ℕ} 0 1 = cc in absurd (omega arith)
 
-  -- ---- demand 2
+  -- ---- demand 2 (14.2)
 
   module _ (s : Soft) (r : SoftRule xs (accepted s)) where
-    -- the accepted word is the one largest, and the answer's values are its own
+    -- Rule 7.1: the accepted word is the one largest, and the answer's values are its own
     pub accepted-known : s .message .0 < messages
     accepted-known = contested r .2 .known
 
@@ -71,11 +71,11 @@ module _ {xs : List ℤ} (X : Valid xs) where
     pub accepted-only : (k : ℕ) → k < messages → k ≢ s .message .0 → scores word xs k <ℤ s .correlation
     accepted-only k h d = let g = contested r .2 .only k h d in let e = accepted-correlation in omega ints
 
-    -- "Its size is at most 51,539,607,528."
+    -- Rule 6.5: the bound of a correlation's size
     pub correlation-size : Within 51539607528 (s .correlation)
     correlation-size = rw accepted-correlation (score-size family X accepted-known)
 
-    -- "An accepted reserve is at least 1 and at most 17,179,869,176."
+    -- Rule 7.3: the range of a reserve
     reserve-is : s .reserve ≡ pos (contested r .0)
     reserve-is = ap (λ (t : Soft). t .reserve) (contested r .1)
 
@@ -85,7 +85,7 @@ module _ {xs : List ℤ} (X : Valid xs) where
     pub reserve-largest : s .reserve ≤ℤ pos 17179869176
     reserve-largest = let e = reserve-is in let h = reserve-within X (contested r .2) in omega ints
 
-  -- refused with 6 exactly if two codewords share the largest correlation
+  -- Rule 7.4: refused with 6 exactly if two codewords have the largest correlation
   pub tied-refused : Tied messages word xs → (a : Answer Soft) → SoftRule xs a → a ≡ refused 6
   tied-refused = soft-told xs (X .long) usable contest.tied
 
@@ -96,7 +96,7 @@ module _ {xs : List ℤ} (X : Valid xs) where
       go (contest.accepted m ρ) a e = let z : _≡_ {A = ℕ} 0 1 = cc in absurd (omega arith)
       go contest.tied t e = (t, cc)
 
-  -- a reading with one best word is accepted, for that word
+  -- Rule 7.1: a reading with one best word is accepted, for that word
   pub best-accepted : (m : ℕ) → m < messages → ((k : ℕ) → k < messages → k ≢ m → scores word xs k <ℤ scores word xs m)
       → (a : Answer Soft) → SoftRule xs a → (s : Soft) × (a ≡ accepted s) × (s .message .0 ≡ m)
   best-accepted m h only (accepted s) r = (s, refl, sym (only-largest (contested r .2) m (record { from = omega arith; below = h; most = largest })))
@@ -121,7 +121,7 @@ module _ {xs : List ℤ} (X : Valid xs) where
               let u = L .most m (omega arith) h in
               absurd (omega ints)
 
--- ---- demand 3
+-- ---- demand 3 (14.3)
 
 -- a word that the contest does not accept is not the answer's
 not-answered : {ys : List ℤ} (Y : Valid ys) {m : ℕ} → ((σ : ℕ) → ¬ Accepted messages word ys m σ) → (t : Soft) → SoftRule ys (accepted t) → t .message .0 ≢ m
@@ -131,7 +131,7 @@ not-answered {ys} Y {m} never t q = go (contested Y q .0) (contested Y q .2)
     go σ a e = never σ (rw e at a)
 
 module _ {xs : List ℤ} (X : Valid xs) (s : Soft) (r : SoftRule xs (accepted s)) where
-  -- any change that adds up to less than the reserve is answered with the same word
+  -- Rule 7.6: any change that adds up to less than the reserve is answered with the same word
   pub reserve-safe : {ys : List ℤ} → Valid ys → pos (change xs ys) <ℤ s .reserve
       → (a : Answer Soft) → SoftRule ys a → (t : Soft) × (a ≡ accepted t) × (t .message .0 ≡ s .message .0)
   reserve-safe {ys} Y h a q =
@@ -139,7 +139,7 @@ module _ {xs : List ℤ} (X : Valid xs) (s : Soft) (r : SoftRule xs (accepted s)
       let A = safe family X (contested X r .2) Y (omega ints) .2 in
       best-accepted Y (s .message .0) (A .known) (A .only) a q
 
-  -- and some valid reading that is away by exactly the reserve is not
+  -- Rule 7.7: and some valid reading that is away by exactly the reserve is not
   pub reserve-sharp : (ys : List ℤ) × Valid ys × (s .reserve ≡ pos (change xs ys)) × ((t : Soft) → SoftRule ys (accepted t) → t .message .0 ≢ s .message .0)
   reserve-sharp =
       let v = sharp family X (contested X r .2) in (
@@ -151,7 +151,7 @@ module _ {xs : List ℤ} (X : Valid xs) (s : Soft) (r : SoftRule xs (accepted s)
 
 -- ---- the class figure
 
--- every answer for a class is what its six sums reach: their sizes added, less twice the least where the top row rule is broken
+-- Rule 8.6: every answer for a class is what its six sums reach
 pub figure-reached : {xs : List ℤ} → Valid xs → (k : ℕ) → k < classes → (a : Answer ℤ) → ClassFigureRule xs k a → a ≡ accepted (reachedFigure xs k)
 figure-reached {xs} X k h a r =
     let F = class-reached xs (X .long) k h in

@@ -343,8 +343,8 @@ struct FirstPair {
     least: u64,
 }
 
-// The figure of class k, whose first two codes are added with its parity, so that the sum is odd where the best interpretations break the
-// top row rule.
+// The figure of class k, whose first two codes are added with its parity, so that the sum is odd where the favoured top bits have not that
+// parity (rule 8.4).
 fn figure(
     sums: &[u64; 64],
     leasts: &[u64; 64],

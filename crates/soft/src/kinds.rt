@@ -3,7 +3,7 @@ use golay::kinds::Codeword;
 use golay::kinds::Message;
 use golay::kinds::Refusal;
 
-// The only codeword with the largest correlation, its message, that correlation, and the reserve.
+// What is accepted (rules 7.1 and 7.2): a message and its codeword, its correlation and its reserve.
 pub struct Soft {
     pub message: Message,
     pub codeword: Codeword,

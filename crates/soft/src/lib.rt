@@ -1,4 +1,4 @@
-// The soft decoder: the only codeword with the largest correlation and its reserve, and the figure of a class. Each call answers for every
+// The soft decoder: the codeword whose correlation no other reaches, with its reserve; and the figure of a class. Each call answers for every
 // reading, and its promise decides the whole answer.
 ghost use mathlib.Core.Path.{_≡_};
 ghost use mathlib.Core.List.{List};

@@ -1,4 +1,4 @@
--- `golay::encode` meets its contract: the rows are document 01's table, which follows from the column rule.
+-- `golay::encode` meets its contract: the rows are the table of rule 3.6, which follows from rule 3.4.
 -- Assumes nothing.
 use mathlib.Core.Path.{_∙_, sym, ap}
 use borrow.Author.Needs.{needs}

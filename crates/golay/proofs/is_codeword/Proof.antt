@@ -1,4 +1,4 @@
--- `golay::is_codeword` meets its contract: the syndrome is zero exactly for codewords.
+-- `golay::is_codeword` meets its contract: the codewords are the words whose syndrome is 0 (4.2).
 -- Assumes nothing.
 use mathlib.Core.Path.{_∙_, sym, ap}
 use Prim.Native.Nat.{ℕ}
