@@ -104,7 +104,7 @@ fn refused_readings(mut reading: impl FnMut(usize) -> Vec<i32>, tied: &[i32]) ->
 }
 
 /// The worked readings (16.6), for the soft and the quick decoder together.
-fn readings_of_the_document() -> Vec<Vec<i32>> {
+fn worked_readings() -> Vec<Vec<i32>> {
     let mut ends_loud = vec![2; POSITIONS];
     ends_loud[..4].fill(-100);
     ends_loud[20..].fill(1);

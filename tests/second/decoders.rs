@@ -35,7 +35,7 @@ pub struct SoftAnswer {
     pub reserve: i64,
 }
 
-/// The messages and correlations of a largest correlation and of the largest among the other 4,095.
+/// A largest correlation and the largest that any other codeword has (7.2), each with its message.
 pub struct TwoBest {
     pub winner: usize,
     pub largest: i64,

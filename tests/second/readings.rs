@@ -74,8 +74,8 @@ fn near_extremes(chance: &mut Chance, code: &Code) -> Vec<i32> {
     speaking_for(damaged(chance, word, errors), &sizes)
 }
 
-/// The runner-up sits in the winner's own class: turning both weak columns over keeps parity and
-/// characters.
+/// The runner-up is of the winner's class: turning both weak columns over keeps parity and
+/// characters (8.1).
 fn two_weak_columns(chance: &mut Chance, code: &Code) -> Vec<i32> {
     let mut sizes = sizes(chance, 50, 100);
     for column in &chance.order(COLUMNS)[..2] {
@@ -86,7 +86,7 @@ fn two_weak_columns(chance: &mut Chance, code: &Code) -> Vec<i32> {
     speaking_for(any_codeword(chance, code), &sizes)
 }
 
-/// A column whose sum is zero counts as either interpretation; two such columns make a tie.
+/// One column sum is zero, which favours both interpretations (8.5), or two are, which makes a tie.
 fn cancelled_column(chance: &mut Chance, code: &Code) -> Vec<i32> {
     let mut sizes = sizes(chance, 1, 20);
     let many = if chance.one_in(4) { 2 } else { 1 };

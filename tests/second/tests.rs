@@ -33,7 +33,7 @@ fn runs(runs: &[(usize, i64)]) -> String {
 }
 
 #[test]
-fn messages_of_the_document_encode_and_read_back() {
+fn worked_messages_encode_and_read_back() {
     let pairs = [
         (0x000, 0x000000),
         (0x800, 0x777778),
@@ -56,7 +56,7 @@ fn messages_of_the_document_encode_and_read_back() {
 }
 
 #[test]
-fn syndromes_of_the_document() {
+fn worked_syndromes() {
     for (word, syndrome) in [
         (0x800000, 0xF80),
         (0x400000, 0xFDE),
@@ -71,7 +71,7 @@ fn syndromes_of_the_document() {
 }
 
 #[test]
-fn ranges_of_the_document() {
+fn worked_ranges() {
     assert!(answer("encode 4095").starts_with("answered "));
     assert_eq!(answer("encode 4096"), "refused 3");
     for call in ["read", "syndrome", "correct"] {
@@ -80,7 +80,7 @@ fn ranges_of_the_document() {
 }
 
 #[test]
-fn hard_cases_of_the_document() {
+fn worked_hard_cases() {
     assert_eq!(
         answer(&format!("correct {}", 0x777770)),
         format!("answered {} 1", 0x777778)
@@ -101,7 +101,7 @@ fn hard_cases_of_the_document() {
 }
 
 #[test]
-fn readings_of_the_document() {
+fn worked_readings() {
     let cases = [
         (runs(&[(24, 1)]), "answered 0 0 24 8", "answered 0"),
         (runs(&[(1, -1), (23, 1)]), "answered 0 0 22 6", "answered 0"),
@@ -126,7 +126,7 @@ fn readings_of_the_document() {
 
 /// Rule 16.6 counts 253 words at 109; the refusal alone would hide a wrong count.
 #[test]
-fn words_tied_in_the_document() {
+fn worked_tie() {
     let code = code();
     let correlation = |codeword: &u32| {
         let signed = |place: u32| {
@@ -179,7 +179,7 @@ fn earlier_refusals_come_first() {
 }
 
 #[test]
-fn columns_of_the_document() {
+fn worked_columns() {
     let table = [
         ([0b0000, 0b1111], [0b1000, 0b0111]),
         ([0b0011, 0b1100], [0b0100, 0b1011]),
@@ -439,7 +439,7 @@ fn samples_show_what_they_are_named_for() {
 }
 
 #[test]
-fn captures_end_and_stop_as_in_the_document() {
+fn worked_captures_end_and_stop() {
     let (one, zero, lowest) = (record(1), record(0), record(i32::MIN));
     let tried = [
         (

@@ -104,7 +104,7 @@ fn short() -> Vec<Trial> {
     let (ones, zeros) = (record(&[1; POSITIONS]), record(&[0; POSITIONS]));
     let refused = record(&[FORBIDDEN; POSITIONS]);
     let captures = [
-        ("document", [&ones[..], &zeros, &MARK[..1]].concat()),
+        ("worked", [&ones[..], &zeros, &MARK[..1]].concat()),
         ("empty", Vec::new()),
         ("mark", MARK.to_vec()),
         ("mark-begun", MARK[..1].to_vec()),

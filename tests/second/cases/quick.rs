@@ -1,6 +1,6 @@
 //! The cases of the quick decoder.
 
-use super::{readings_of_the_document, refusals, refused_readings};
+use super::{refusals, refused_readings, worked_readings};
 use crate::chance::Chance;
 use crate::code::{Code, COLUMNS, POSITIONS};
 use crate::line::Case;
@@ -20,7 +20,7 @@ pub fn fixed(code: &Code, chance: &mut Chance) -> Vec<Case> {
 }
 
 fn gathered(code: &Code, chance: &mut Chance, many: usize) -> Vec<Case> {
-    let mut readings = readings_of_the_document();
+    let mut readings = worked_readings();
     readings.extend(ties());
     readings.extend(refused_readings(|i| reading(code, chance, i), &tied()));
     readings.extend((0..many).map(|i| reading(code, chance, i)));

@@ -1,7 +1,7 @@
 //! The cases of the soft decoder and of the class figures.
 
 use super::{
-    of_length, readings_of_the_document, refusals, refused_readings, sharp, with_confidence, zeros,
+    of_length, refusals, refused_readings, sharp, with_confidence, worked_readings, zeros,
     WRONG_LENGTHS,
 };
 use crate::chance::Chance;
@@ -64,11 +64,8 @@ fn reading(code: &Code, chance: &mut Chance, i: usize) -> Vec<i32> {
 
 /// The worked readings (16.6), and the classes at both ends of the range for each of them.
 fn examples() -> Vec<Case> {
-    let mut cases: Vec<Case> = readings_of_the_document()
-        .into_iter()
-        .map(Case::Soft)
-        .collect();
-    for reading in readings_of_the_document() {
+    let mut cases: Vec<Case> = worked_readings().into_iter().map(Case::Soft).collect();
+    for reading in worked_readings() {
         cases.push(Case::ClassFigure(0, reading.clone()));
         cases.push(Case::ClassFigure(CLASSES - 1, reading));
     }
