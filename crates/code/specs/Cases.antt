@@ -10,6 +10,7 @@ pub data Case : Type 0 where
   codeword : ℕ → ℕ → Case
   syndrome : ℕ → ℕ → Case
 
+-- Rules 16.1 and 16.2: all of them
 unfoldable pub cases : List Case
 cases =
     codeword 0x000 0x000000 ∷ codeword 0x800 0x777778 ∷ codeword 0x400 0x500536 ∷ codeword 0x200 0x300365 ∷ codeword 0x080 0x030356

@@ -50,7 +50,7 @@ topBits m = bitOf 4 m ∷ bitOf 3 m ∷ bitOf 2 m ∷ bitOf 1 m ∷ bitOf 0 m �
 abbrev pub sixTopBits : ℕ → List ℕ
 sixTopBits m = topBits m ++ ((bitOf 11 m + total (topBits m)) % 2 ∷ [])
 
--- Rule 3.4: the codeword of a message, by p, the characters of a, b, c, and the top bits
+-- Rule 3.4: the codeword of a message, column by column of p, the hexacodeword of a, b and c, and the six top bits
 unfoldable pub codewordOf : ℕ → ℕ
 codewordOf m =
     joined (interpreted (bitOf 11 m) (hexacodeword (characterOf 9 m) (characterOf 7 m) (characterOf 5 m)) (sixTopBits m))

@@ -30,7 +30,7 @@ pub data Answer : Type 0 where
   accepted : ℕ → ℕ → Answer
   tied : Answer
 
--- what an answer says of a reading
+-- Rules 7.1 and 7.4: what an answer says of a reading
 abbrev pub Answers : ℕ → (ℕ → List Bool) → List ℤ → Answer → Type 0
 Answers N word xs (accepted m ρ) = Accepted N word xs m ρ
 Answers N word xs tied = Tied N word xs

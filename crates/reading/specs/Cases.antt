@@ -4,12 +4,14 @@ use lib.IntN.{ℤ, pos, negsuc}
 use lib.ListN.{replicate}
 use Rattle.code.specs.Code.{positions}
 
+-- Rule 16.6: all 1
 abbrev pub allOnes : List ℤ
 allOnes = replicate positions (pos 1)
 
+-- Rule 16.6: all 0
 abbrev pub allZeros : List ℤ
 allZeros = replicate positions (pos 0)
 
--- position 1 is -100, the rest 1
+-- Rule 16.6: position 1 is -100, the rest 1
 abbrev pub oneAgainst : List ℤ
 oneAgainst = negsuc 99 ∷ replicate 23 (pos 1)

@@ -34,6 +34,7 @@ module _ {A : Type 0} (t : Telling A) where
 abbrev pub stopping : Telling Bool
 stopping = record { atEnd = false; atStop = λ n offset. true; atRecord = λ reading later. later }
 
+-- Rule 12.4: of the bytes from a record's start on, which has an offset
 abbrev pub stopsFrom : ℕ → List ℕ → Bool
 stopsFrom = runFrom stopping
 
@@ -42,6 +43,7 @@ module _ (decode : List ℤ → Answer (ℕ × ℕ)) where
   abbrev pub lines : Telling (List ℕ)
   lines = record { atEnd = []; atStop = stoppedLine; atRecord = λ reading later. answerLine (decode reading) ++ later }
 
+  -- Rule 13.1: the lines from a record's start on, which has an offset
   abbrev pub linesFrom : ℕ → List ℕ → List ℕ
   linesFrom = runFrom lines
 

@@ -19,7 +19,7 @@ pub record Narrow (t : Pair) : Type 0 where
   pub sum : Within 4294967296 (t .sum)
   pub difference : Within 4294967296 (t .difference)
 
--- z is the sum that belongs at place j
+-- Rule 8.3: z is the sum that belongs at place j
 pub record SumAt (xs : List ℤ) (j : ℕ) (z : ℤ) : Type 0 where
   pub value : z ≡ columnSum xs (j / 8) (j % 8 / 4) (j % 8 % 4)
   pub bound : Within 8589934592 z
@@ -28,7 +28,7 @@ pub record SumAt (xs : List ℤ) (j : ℕ) (z : ℤ) : Type 0 where
 abbrev pub SumsUpTo : List ℤ → ℕ → List ℤ → Type 0
 SumsUpTo xs i s = Filled (pos 0) (SumAt xs) (8 * i) 48 s
 
--- no sum is larger than four confidences
+-- no sum has a size above four times 2^31
 abbrev pub SumsWithin : List ℤ → Type 0
 SumsWithin s = (j : ℕ) → Within 8589934592 (getD s j (pos 0))
 

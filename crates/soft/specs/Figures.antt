@@ -78,6 +78,7 @@ figureFrom sums leasts sum least k =
 abbrev pub figureOf : ℕ → ℕ → ℕ → ℕ → ℕ → ℕ → ℕ → ℤ
 figureOf p a b c d e f = scored (a + b + p + (c + d) + (e + f)) (min (min e f) (min (min c d) (min a b)))
 
+-- that of class k, from all 48
 unfoldable pub figureAt : List ℕ → ℕ → ℤ
 figureAt e k =
     figureOf (parityOf k)
