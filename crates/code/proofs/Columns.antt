@@ -2,21 +2,22 @@
 -- them; so it adds up when two words are added, and so does a number that is made of such pieces side by side.
 -- Assumes nothing.
 use mathlib.Core.Path.{_≡_, refl, sym, ap, ap₂, _∙_}
-use mathlib.Core.Bool.{Bool}
+use mathlib.Core.Bool.{Bool, _&&_}
 use mathlib.Core.List.{List, [], _∷_}
 use Prim.Native.Nat.{ℕ, _+_, _*_, _/_, _%_, _^_, _<_}
 use native.Mathlib.Nat.{mod-lt}
 use native.Mathlib.Omega.{arith}
 use lib.Dec.{T, eqb, eqb→eq, lit<}
 use lib.Arith.{digits-lt}
+use lib.ListN.{getD}
 use lib.Pow.{pow-pos, pow-add}
 use lib.Bits.{bitXor, bitAnd, xor-shr, xor-mod, xor-lt, xor-block, xor-add-and}
 use Rattle.binary.specs.Words.{rowSum}
-use Rattle.binary.proofs.Tests.{all, below}
+use Rattle.binary.proofs.Tests.{and-left, and-right, all, below}
 use Rattle.binary.proofs.Xor.{xor-swap}
 use Rattle.binary.proofs.Linear.{rowSum-add, rowSum-lt, short}
 use Rattle.code.specs.Characters.{_⊗_, w, v}
-use Rattle.code.specs.Array.{bit, parity, topRow, projection}
+use Rattle.code.specs.Array.{bit, parity, topRow, projection, interpretations, interpretation}
 
 -- z is the sum of x and y, which have at most k bits
 pub record Added (k x y z : ℕ) : Type 0 where
@@ -108,3 +109,38 @@ module _ (a b : ℕ) where
       added-plus (top-parity 20)
       (added-plus (top-parity 16)
       (added-plus (top-parity 12) (added-plus (top-parity 8) (added-plus (top-parity 4) (added-plus (top-parity 0) none))))) .parities
+
+-- ---- the table of columns
+
+reads-back : ℕ → Bool
+reads-back n =
+    eqb (parity (getD interpretations n 0)) (n / 8) && eqb (projection (getD interpretations n 0)) (n / 2 % 4)
+    && eqb (bit 1 (getD interpretations n 0)) (n % 2)
+
+all-read-back : T (all reads-back 16)
+unfolding reads-back
+all-read-back = tt
+
+-- the column that a parity, a character and a top bit pick has that parity, projects to that character and has that top bit
+pub interpretation-fits :
+    (p x top : ℕ)
+    → p < 2
+    → x < 4
+    → top < 2
+    → (parity (interpretation p x top) ≡ p) × (projection (interpretation p x top) ≡ x) × (bit 1 (interpretation p x top) ≡ top)
+unfolding reads-back
+interpretation-fits p x top hp hx ht =
+    let n = p * 8 + x * 2 + top in
+    let c = interpretation p x top in
+    let P = eqb (parity c) (n / 8) in
+    let X = eqb (projection c) (n / 2 % 4) in
+    let Q = eqb (bit 1 c) (n % 2) in
+    let t : T (P && X && Q) = below reads-back 16 all-read-back n (omega arith) in
+    let b = and-left (P && X) Q t in
+    let ep : n / 8 ≡ p = omega arith in
+    let ex : n / 2 % 4 ≡ x = omega arith in
+    let et : n % 2 ≡ top = omega arith in (
+      eqb→eq (parity c) (n / 8) (and-left P X b) ∙ ep,
+      eqb→eq (projection c) (n / 2 % 4) (and-right P X b) ∙ ex,
+      eqb→eq (bit 1 c) (n % 2) (and-right (P && X) Q t) ∙ et,
+    )

@@ -15,6 +15,6 @@ abbrev pub bits : ℕ → ℕ → List Bool
 bits zero w = []
 bits (suc n) w = eqb (w % 2) 1 ∷ bits n (w / 2)
 
--- the word of n bits and one in front that brings its parity to p, as rule 3.3 has it for column 6
+-- the word of n bits and one in front that brings its parity to p
 abbrev pub tops : ℕ → Bool → ℕ → List Bool
 tops n p j = differ p (odd (bits n j)) ∷ bits n j

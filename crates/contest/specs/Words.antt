@@ -26,7 +26,7 @@ distance [] cs = 0
 distance (b ∷ bs) [] = 0
 distance (b ∷ bs) (c ∷ cs) = one (differ b c) + distance bs cs
 
--- N words of n bits, at least two and no two the same, as the 4,096 codewords are
+-- N words of n bits, at least two and no two the same
 pub record Family (N n : ℕ) (word : ℕ → List Bool) : Type 0 where
   pub two : 2 ≤ N
   pub long : (m : ℕ) → m < N → length (word m) ≡ n

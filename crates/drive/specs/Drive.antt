@@ -1,4 +1,4 @@
--- Rules 11.4 and 11.5 for C: a call returns 0 where it answers, else the refusal's number, and writes its outputs only where it answers.
+-- Rules 11.5 and 11.7: a call returns 0 where it answers, else the refusal's number, and writes its outputs only where it answers.
 use mathlib.Core.Path.{_≡_}
 use mathlib.Core.List.{List}
 use Prim.Native.Nat.{ℕ}
@@ -9,7 +9,7 @@ use Rattle.hard.specs.Calls.{WritesCandidates}
 use Rattle.soft.specs.declared.kinds.Soft.{Soft}
 
 module _ {A : Type 0} where
-  -- Rule 11.4: the number of a refusal; 0, which is none, stands for an answer
+  -- Rule 11.7: 0 for an answer, which is no refusal's number, else the refusal's
   abbrev pub returned : Answer A → ℕ
   returned (accepted x) = 0
   returned (refused n) = n
