@@ -1,4 +1,5 @@
 // Decodes a capture, from the file that the argument names or from standard input: the header, a line for each record, the line where it stopped.
+// A first argument `-9` says that someone reads descriptor 9 for failures: the language gives a program no exit status.
 ghost use mathlib.Core.Path.{_≡_};
 ghost use Prim.Native.Nat.{_+_, _%_, _≤_};
 ghost use lib.ListN.{length};
@@ -18,13 +19,30 @@ const FARTHEST: u64 = 0xFFFF_FFFF_FFFE_0000;
 
 const MEBIBYTE: u64 = 0x10_0000;
 
+const FAILURES_FILENO: i32 = 9;
+
+// Unasked, the descriptor may be anybody's.
+fn tells_failures() -> bool {
+    let mut word = [0u8; 2];
+    let length = os::arg(1, &mut word);
+    length == 2 && word[0] == b'-' && word[1] == b'9'
+}
+
+// What failed and why, on standard error; and that something failed, where that is asked for.
+fn fail(what: &[u8]) {
+    os::fail(what);
+    if tells_failures() {
+        io::write_all(FAILURES_FILENO, b"failed\n");
+    }
+}
+
 // The first bytes of a buffer, to standard output.
 fn write_text(text: &[u8], put: usize) -> bool
     requires { ⌜ put ≤ length (now text) ⌝ }
 {
     let written = io::write_all(STDOUT_FILENO, &text[..put]);
     if !written {
-        os::fail(b"standard output");
+        fail(b"standard output");
     }
     written
 }
@@ -91,7 +109,7 @@ fn decode_pieces(fd: i32, name: &[u8], shows: bool, held: &mut [u8], text: &mut 
         let got = libc::read(fd, &mut held[count..]);
         if got < 0 {
             clear_progress(shows);
-            os::fail(name);
+            fail(name);
             return;
         }
         let n = io::count(got, &held[count..]);
@@ -114,7 +132,7 @@ fn decode_pieces(fd: i32, name: &[u8], shows: bool, held: &mut [u8], text: &mut 
 fn decode(fd: i32, name: &[u8]) {
     let mut none = [0u8; 1];
     if libc::read(fd, &mut none[..0]) < 0 {
-        os::fail(name);
+        fail(name);
         return;
     }
     if write_header() {
@@ -131,27 +149,41 @@ fn is_dash(path: &[u8]) -> bool {
     path.len() == 1 && path[0] == b'-'
 }
 
-fn main() {
-    if os::arg_count() > 2 {
-        io::write_all(STDERR_FILENO, b"usage: capture [FILE]\n");
+fn decode_file(path: &[u8]) {
+    let fd = os::open_read(path);
+    if fd < 0 {
+        fail(path);
         return;
     }
+    decode(fd, path);
+    libc::close(fd);
+}
+
+fn decode_argument(place: usize) {
     let mut path = io::buffer();
-    let length = os::arg(1, &mut path);
-    if os::arg_count() < 2 || is_dash(&path[..length]) {
+    let length = os::arg(place, &mut path);
+    if os::arg_count() <= place || is_dash(&path[..length]) {
         decode(STDIN_FILENO, b"standard input");
         return;
     }
     // An argument that is longer than any path: its first bytes name it.
     if os::errno() != 0 {
-        os::fail(&path);
+        fail(&path);
         return;
     }
-    let fd = os::open_read(&path[..length]);
-    if fd < 0 {
-        os::fail(&path[..length]);
+    decode_file(&path[..length]);
+}
+
+fn main() {
+    let mut place: usize = 1;
+    let mut most: usize = 2;
+    if tells_failures() {
+        place = 2;
+        most = 3;
+    }
+    if os::arg_count() > most {
+        io::write_all(STDERR_FILENO, b"usage: capture [-9] [FILE]\n");
         return;
     }
-    decode(fd, &path[..length]);
-    libc::close(fd);
+    decode_argument(place);
 }
