@@ -1,0 +1,39 @@
+# Sourced by ./bench and ./test, after machine.sh, build.sh and hosts.sh: counts executed instructions. A count must not follow the machine: what
+# lies on the stack, the environment and every name among it, moves what lies below, and a C library chooses by the processor what it runs. So
+# the environment is empty, all names are relative, and the processor is a named one.
+
+# Sets counting, the words of the emulator that prints a line for each instruction; and the kit's C library gets a name of its own here.
+counter() {
+    need_kit
+    by=$emulator
+    [ -n "$by" ] || { need qemu-x86_64 qemu-user; by=$(command -v qemu-x86_64); }
+    each_alone=-one-insn-per-tb
+    # what emulators before 8.1 call it
+    "$by" -help | grep -q -e "$each_alone" || each_alone=-singlestep
+    counting=(env -i "$by" -cpu Haswell "$each_alone" -d exec,nochain)
+    ln -sfn "$tools/lib" target/kit
+}
+
+bench_builds() {
+    "$host_cc" -std=c99 -O3 -Wall -Wextra -Werror -c tests/host/peers.c -o target/peers.o &&
+        host bench tests/host/bench.c tests/host/inputs.c tests/host/field.c target/peers.o
+}
+
+traced() { "${counting[@]}" "$@" 2>&1 >/dev/null; }
+executed() { traced "$@" | wc -l; }
+# between CALL KIND N: what n calls execute, with the host's own loop
+between() { echo $(($(executed target/bench run "$1" "$2" 0 $((2 * $3))) - $(executed target/bench run "$1" "$2" 0 "$3"))); }
+# each CALL KIND N: one call, on average over n inputs of a kind
+each() { echo $((($(between "$1" "$2" "$3") - $(between none "$2" "$3")) / $3)); }
+# alone CALL: what each call executes with the host's own loop, for all 64 readings of each kind: the trace is cut where the loop enters it
+alone() {
+    for kind in decent weak full extreme zeros; do
+        traced target/bench run "$1" "$kind" 0 65 |
+            awk -v call="$1" '$NF == call && (before == "main" || before == "run_one") { if (start) print NR - start; start = NR } { before = $NF }'
+    done | sort -n
+}
+# records N: what the whole capture program executes for the first n records of the decent sample
+records() {
+    head -c $((98 * $1)) samples/decent.capture >target/bench.capture
+    executed target/kit/ld-linux-x86-64.so.2 --library-path target/kit target/bin/capture target/bench.capture
+}
