@@ -113,6 +113,7 @@ checks_words() {
     ended 0 "$usage*" '' "$2" --help && ended 0 "$usage*" '' "$2" -h && ended 0 "$usage*" '' "$2" capture --help &&
         ended 2 '' "$usage" "$2" && ended 2 '' "$usage" "$2" decode &&
         ended 2 '' "*: capture takes one file, not 2"$'\n'"$usage" "$2" capture one two &&
+        ended 2 '' "*: the file's name is empty"$'\n'"$usage" "$2" capture '' &&
         ended 2 '' "*: there is no option --all; a file of that name is ./--all"$'\n'"$usage" "$2" capture --all
 }
 

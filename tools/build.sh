@@ -36,7 +36,7 @@ prove() {
     need_kit
     can_write_target || die "$root/target can't be written to, and $1 has to be built there"
     printf 'proving and building %s, once; this takes some minutes\n' "$1" >&2
-    (cd "$root" && exec rt "$3" "$4") 2>&1 | tee "$root/target/log/build.out" | follow "$4"
+    (cd "$root" && exec rt "$3" "$4") 2>&1 </dev/null | tee "$root/target/log/build.out" | follow "$4"
     status=${PIPESTATUS[0]}
     if [ "$status" != 0 ] || [ ! -s "$root/$2" ]; then
         tail -n 20 "$root/target/log/build.out" >&2

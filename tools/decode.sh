@@ -34,6 +34,7 @@ check_words() {
     *) usage ;;
     esac
     [ $# -le 1 ] || usage "capture takes one file, not $#"
+    [ "${1-none}" ] || usage "the file's name is empty"
     case ${1-} in
     -h | --help) help; exit ;;
     -?*) usage "there is no option $1; a file of that name is ./$1" ;;

@@ -27,7 +27,7 @@ hosts() {
 
 # On Arm a static program needs Debian's libc6-dev-amd64-cross beside the compiler; what it says is shown, whatever it lacks.
 probe() {
-    mkdir -p target || die "target can't be written to"
+    can_write_target || die "$root/target can't be written to"
     printf 'int main(void){return 0;}\n' >target/probe.c
     "$host_cc" -static -o target/probe target/probe.c || die "$host_cc links no static program, which the C programs for x86-64 are"
 }
