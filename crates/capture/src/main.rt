@@ -58,12 +58,11 @@ fn shows_progress() -> bool {
     libc::isatty(STDERR_FILENO) == 1 && libc::isatty(STDOUT_FILENO) != 1
 }
 
-// How far the run has come, whenever it is a mebibyte farther.
+// How far the run has come, whenever it is a mebibyte farther. What is written next, also a failure, begins the line again.
 fn show_progress(shows: bool, before: u64, now: u64) {
     if shows && before / MEBIBYTE < now / MEBIBYTE {
-        io::write_all(STDERR_FILENO, b"\r");
         io::print_decimal(STDERR_FILENO, now / MEBIBYTE);
-        io::write_all(STDERR_FILENO, b" MiB decoded");
+        io::write_all(STDERR_FILENO, b" MiB decoded\r");
     }
 }
 
