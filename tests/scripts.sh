@@ -196,7 +196,7 @@ target_may_be_anothers() {
 }
 
 try_tree() {
-    make_tree || return 1
+    make_tree || { bad "no tree with a stand-in for rt"; return; }
     cannot_write="run: $tree/target can't be written to, and the capture program has to be built there"
     part "./run tells that it builds, that it can't, and that the kit is missing" building_is_told
     part "./run shows the rooms on a terminal" rooms_are_shown
@@ -240,7 +240,7 @@ try_command() { # NAME WORD..
 }
 
 try_install() {
-    place=$(mktemp -d) || return 1
+    place=$(mktemp -d) || { bad "no folder to install into"; return; }
     part "./install" installs
     part "the example for firmware by pkg-config's words" example_links_by_page
     part "./install knows its folder" install_knows_its_folder

@@ -1,5 +1,15 @@
 # Sourced by ./test and ./bench, after machine.sh and build.sh: the tools that this machine lacks, and C programs for x86-64.
 
+# takes_no_words HELP WORD..: --help prints the help; any other word is refused before anything is done
+takes_no_words() {
+    case $#-${2-} in
+    1-) return ;;
+    2---help | 2--h) printf 'usage: ./%s\n\n%s\n' "${0##*/}" "$1"; exit ;;
+    esac
+    printf 'usage: ./%s\n' "${0##*/}" >&2
+    exit 2
+}
+
 # need COMMAND PACKAGE: has the command, installs Debian's package that has it, or says what is missing.
 need() {
     command -v "$1" >/dev/null 2>&1 && return
