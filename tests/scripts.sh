@@ -162,10 +162,10 @@ without_kit() { PATH=$tree/bare "$@" capture </dev/null; }
 as_another() { if [ "$(id -u)" = 0 ]; then setpriv --reuid=65534 --regid=65534 --clear-groups "$@"; else "$@"; fi; }
 
 building='proving and building the capture program, once; this takes some minutes'
-no_kit='run: rt, the command of the Rattle kit, is missing or fails; it is in no Debian package'
+no_kit=', and rt, the command of the Rattle kit, is missing; it is in no Debian package'
 
 building_is_told() {
-    ended 1 '' "$no_kit" without_kit "$tree/run" && touch "$tree/broken" &&
+    ended 1 '' "run: the capture program has to be built$no_kit" without_kit "$tree/run" && touch "$tree/broken" &&
         ended 1 '' "$building"$'\n''rt: capture NOT PROVED (exit 1, 2 s)'$'\n'"run: the capture program is not proved: rt check capture ended with 1; $tree/target/log/build.out has the whole report" with_kit "$tree/run" &&
         rm "$tree/broken" && ended 0 decoded "$building" with_kit "$tree/run" && ended 0 decoded '' with_kit "$tree/run"
 }
@@ -178,7 +178,7 @@ rooms_are_shown() {
 
 # On Arm it needs the kit's emulator.
 built_needs_no_kit() {
-    if [ -z "$emulator" ]; then ended 0 decoded '' without_kit "$tree/run"; else ended 1 '' "$no_kit" without_kit "$tree/run"; fi
+    if [ -z "$emulator" ]; then ended 0 decoded '' without_kit "$tree/run"; else ended 1 '' "*$no_kit" without_kit "$tree/run"; fi
 }
 
 # By a link, and with a CDPATH where the folder's own name is found elsewhere.

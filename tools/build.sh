@@ -33,7 +33,7 @@ can_write_target() { mkdir -p "$root/target/log" 2>/dev/null && [ -z "$(find "$r
 
 # prove WHAT FILE COMMAND NAME: `rt COMMAND NAME` makes the file. rt leaves one alone whose sources say the same as before, so its time is set here.
 prove() {
-    need_kit
+    need_kit "$1 has to be built"
     can_write_target || die "$root/target can't be written to, and $1 has to be built there"
     printf 'proving and building %s, once; this takes some minutes\n' "$1" >&2
     (cd "$root" && exec rt "$3" "$4") 2>&1 </dev/null | tee "$root/target/log/build.out" | follow "$4"

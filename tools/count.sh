@@ -4,7 +4,7 @@
 
 # Sets counting, the words of the emulator that prints a line for each instruction; and the kit's C library gets a name of its own here.
 counter() {
-    need_kit
+    need_kit "what is counted is linked to the kit's C library"
     by=$emulator
     [ -n "$by" ] || { need qemu-x86_64 qemu-user; by=$(command -v qemu-x86_64); }
     each_alone=-one-insn-per-tb

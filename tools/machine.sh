@@ -6,7 +6,11 @@ die() { printf '%s: %s\n' "${0##*/}" "$*" >&2; exit 1; }
 # The kit's folder is two above the guide that `rt doc` prints; where there is no kit, this fails and says nothing.
 kit() { guide=$(rt doc </dev/null 2>/dev/null) && dirname "$(dirname "$guide")"; }
 
-need_kit() { kit >/dev/null || die "rt, the command of the Rattle kit, is missing or fails; it is in no Debian package"; }
+# need_kit WHY: dies where there is none
+need_kit() {
+    command -v rt >/dev/null 2>&1 || die "$1, and rt, the command of the Rattle kit, is missing; it is in no Debian package"
+    kit >/dev/null || die "$1, and rt, the command of the Rattle kit, fails: $(rt doc 2>&1 </dev/null | tail -n 1)"
+}
 
 # Sets emulator, what runs a static program (empty where the machine does), and loader, the words that come before a proved program too. It is
 # linked to the kit's C library, and `rt` runs it with that; without the kit an x86-64 machine runs it with its own.
@@ -16,7 +20,7 @@ machine() {
     case $(uname -m) in
     x86_64) ;;
     aarch64)
-        need_kit
+        need_kit "programs for x86-64 run under the kit's emulator here"
         tools=$home/on/aarch64/toolchain
         emulator=$tools/bin/qemu-x86_64
         [ -x "$emulator" ] || die "the Rattle kit has no emulator at $emulator"
