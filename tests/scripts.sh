@@ -166,7 +166,7 @@ no_kit=', and rt, the command of the Rattle kit, is missing; it is in no Debian 
 
 building_is_told() {
     ended 1 '' "run: the capture program has to be built$no_kit" without_kit "$tree/run" && touch "$tree/broken" &&
-        ended 1 '' "$building"$'\n''rt: capture NOT PROVED (exit 1, 2 s)'$'\n'"run: the capture program is not proved: rt check capture ended with 1; $tree/target/log/build.out has the whole report" with_kit "$tree/run" &&
+        ended 1 '' "$building"$'\n''rt: capture NOT PROVED (exit 1, 2 s)'$'\n'"$not_proved" with_kit "$tree/run" &&
         rm "$tree/broken" && ended 0 decoded "$building" with_kit "$tree/run" && ended 0 decoded '' with_kit "$tree/run"
 }
 
@@ -197,6 +197,7 @@ target_may_be_anothers() {
 
 try_tree() {
     make_tree || { bad "no tree with a stand-in for rt"; return; }
+    not_proved="run: the capture program is not proved: rt check capture ended with 1; $tree/target/log/build.out has the whole report"
     cannot_write="run: $tree/target can't be written to, and the capture program has to be built there"
     part "./run tells that it builds, that it can't, and that the kit is missing" building_is_told
     part "./run shows the rooms on a terminal" rooms_are_shown
@@ -219,12 +220,14 @@ by_page() { PKG_CONFIG_PATH=$place/garthumor/lib/pkgconfig pkg-config "$@" garth
 # Static, as all C programs here are, so that Arm runs it too.
 example_links_by_page() {
     words=$(by_page --cflags --libs) && "$host_cc" -std=c99 -Wall -Wextra -Werror -static -o target/linked examples/drive.c $words &&
-        $emulator target/linked | cmp - examples/drive.expected && grep -q "^#define GARTHUMOR_VERSION \"$(by_page --modversion)\"" include/garthumor.h
+        $emulator target/linked | cmp - examples/drive.expected &&
+        grep -q "^#define GARTHUMOR_VERSION \"$(by_page --modversion)\"" include/garthumor.h
 }
 
 # A folder that is named from here, one below DESTDIR, and one that can't be made.
 install_knows_its_folder() {
-    (cd "$place" && "$root/install" here) | grep -qx "installed into $place/here" && grep -qx "prefix=$place/here" "$place/here/lib/pkgconfig/garthumor.pc" &&
+    (cd "$place" && "$root/install" here) | grep -qx "installed into $place/here" &&
+        grep -qx "prefix=$place/here" "$place/here/lib/pkgconfig/garthumor.pc" &&
         ended 0 "installed into $place/staged/usr" '' env DESTDIR="$place/staged" ./install /usr &&
         grep -qx 'prefix=/usr' "$place/staged/usr/lib/pkgconfig/garthumor.pc" &&
         ended 1 '' 'install: /dev/null/garthumor: Not a directory' ./install /dev/null/garthumor

@@ -53,7 +53,7 @@ check_streams() {
     exec </dev/null
 }
 
-# Says whose words are waited for, where nobody named a file.
+# Who forgot the file would look at the header and wait.
 tell_terminal() { [ $# -gt 0 ] || [ ! -t 0 ] || printf '%s: reading the capture from standard input, which is a terminal\n' "${0##*/}" >&2; }
 
 # Where this script is ended by a signal, the program ends too.
