@@ -1,9 +1,12 @@
 /* Random calls of all ten entry points, with arguments that favour the edges and guard bytes around
  * every buffer. After each call: the guards hold, inputs are as they were, a refusal left every
- * output alone and has the number that the arguments ask for, and an answer keeps the facts that
- * the library's other calls or a few additions can confirm.
+ * output alone and has the number that the rules of docs/RULES.md ask for, and an answer is the one
+ * that they ask for. What they ask for is found here, with no help of the library. Only where that
+ * takes all 4,096 codewords, to tell the largest correlation and a tie, one call in a few is looked
+ * into, and the others keep what a few additions can tell. At the end each call has answered, and
+ * has given each refusal that it lists.
  *
- *   random SEED CALLS */
+ *   random SEED CALLS     (below some ten thousand a refusal may not come up) */
 #include "garthumor.h"
 #include "inputs.h"
 #include "lent.h"
@@ -13,12 +16,23 @@
 #include <stdlib.h>
 
 enum { WORD_BYTES = 3, SLOTS = 6, LONGEST_SHORT = 25, LONG = 1 << 20, SHOWN = 10 };
+enum { MESSAGE_BITS = 12, MESSAGES = 1 << MESSAGE_BITS, WORDS = 1 << POSITIONS, COLUMNS = 6 };
+enum { CLASSES = 128, CLASS_SIZE = 32 };
 
-static const uint32_t MOST_MESSAGE = 4095, MOST_WORD = 16777215, MOST_CLASS = 127;
-static const int64_t MOST_CORRELATION = 51539607528, MOST_RESERVE = 17179869176;
+/* No word is farther from the code; two codewords are not nearer to each other. */
+enum { FARTHEST = 4, LEAST_BETWEEN = 8 };
 
-/* What a call gave; what document 01 asks for by the arguments alone, or 0; and what is wrong with
- * the answer, or NULL. */
+/* Of the calls that need all codewords one in so many is looked into: a million calls take a few
+ * seconds, and not minutes under an emulator. */
+enum { LOOKED_INTO = 16 };
+
+/* One call in so many, at the least, is an answer of each entry point. */
+enum { LEAST_ANSWERED = 200 };
+
+static const int64_t MOST_RESERVE = 17179869176;
+
+/* What a call gave and what is asked for: 0 or the number of a refusal; and what is wrong with the
+ * answer, or NULL. */
 struct outcome {
     uint8_t given, asked;
     const char *wrong;
@@ -26,6 +40,68 @@ struct outcome {
 
 /* Contents for lent memory of any length. */
 static uint32_t contents[LONG];
+
+/* ---- the code, by the rules */
+
+/* The parities of the columns and of the top row, and what the projections lack to a hexacodeword. */
+static uint32_t syndrome_of(uint32_t word)
+{
+    static const uint32_t by_w[4] = { 0, 2, 3, 1 }, by_v[4] = { 0, 3, 1, 2 };
+    uint32_t parity[COLUMNS], x[COLUMNS], top = 0, syndrome = 0;
+    for (int i = 0; i < COLUMNS; i++) {
+        uint32_t column = word >> (20 - 4 * i) & 15;
+        uint32_t b1 = column >> 3, b2 = column >> 2 & 1, b3 = column >> 1 & 1, b4 = column & 1;
+        parity[i] = b1 ^ b2 ^ b3 ^ b4;
+        x[i] = b2 ^ 2 * b3 ^ 3 * b4;
+        top ^= b1;
+    }
+    for (int i = 1; i < COLUMNS; i++)
+        syndrome = 2 * syndrome + (parity[i] ^ parity[0]);
+    syndrome = 2 * syndrome + (top ^ parity[0]);
+    syndrome = 4 * syndrome + (x[3] ^ x[0] ^ x[1] ^ x[2]);
+    syndrome = 4 * syndrome + (x[4] ^ by_v[x[0]] ^ by_w[x[1]] ^ x[2]);
+    return 4 * syndrome + (x[5] ^ by_w[x[0]] ^ by_v[x[1]] ^ x[2]);
+}
+
+static int is_codeword(uint32_t word) { return word < WORDS && syndrome_of(word) == 0; }
+
+static uint32_t codewords[MESSAGES];
+
+static void list_codewords(void)
+{
+    /* Of the messages of a single bit, the lowest first. */
+    static const uint32_t rows[MESSAGE_BITS] = {
+        0x0000FF, 0x000F0F, 0x00F00F, 0x0F000F, 0xF0000F, 0x003333,
+        0x005555, 0x030356, 0x050563, 0x300365, 0x500536, 0x777778,
+    };
+    for (uint32_t message = 0; message < MESSAGES; message++)
+        for (int bit = 0; bit < MESSAGE_BITS; bit++)
+            codewords[message] ^= message >> bit & 1 ? rows[bit] : 0;
+}
+
+static int encodes(uint32_t message, uint32_t codeword)
+{
+    return message < MESSAGES && codewords[message] == codeword;
+}
+
+/* How far from the code the words of each syndrome lie. */
+static uint32_t distances[MESSAGES];
+
+/* One position more leads on from the syndromes at a distance to those not reached before. */
+static void list_distances(void)
+{
+    for (uint32_t s = 1; s < MESSAGES; s++)
+        distances[s] = UINT32_MAX;
+    for (uint32_t distance = 0; distance < FARTHEST; distance++)
+        for (uint32_t s = 0; s < MESSAGES; s++)
+            for (int i = 0; i < POSITIONS && distances[s] == distance; i++) {
+                uint32_t next = s ^ syndrome_of(1u << i);
+                if (distances[next] == UINT32_MAX)
+                    distances[next] = distance + 1;
+            }
+}
+
+static uint32_t distance_from_code(uint32_t word) { return distances[syndrome_of(word)]; }
 
 /* ---- arguments */
 
@@ -45,19 +121,14 @@ static uint32_t some_number(uint32_t bound)
     return sort == 0 ? chance() : sort == 1 ? edge() : chance() % bound;
 }
 
-static uint32_t some_codeword(void)
-{
-    uint32_t codeword = 0;
-    garthumor_encode(chance() % (MOST_MESSAGE + 1), &codeword);
-    return codeword;
-}
+static uint32_t some_codeword(void) { return codewords[chance() % MESSAGES]; }
 
 /* A codeword with up to four errors, at times with bits above the range; or any number. */
 static uint32_t some_word(void)
 {
     uint32_t sort = chance() % 8;
     if (sort == 0)
-        return some_number(MOST_WORD + 1);
+        return some_number(WORDS);
     uint32_t word = some_codeword();
     for (uint32_t errors = chance() % 6; errors > 1; errors--)
         word ^= 1u << chance() % POSITIONS;
@@ -74,6 +145,14 @@ static size_t some_length(size_t wanted)
     return sort < 1024 ? lengths[chance() % (sizeof lengths / sizeof lengths[0])] : wanted;
 }
 
+/* The sizes stay; each sign becomes that of the codeword. */
+static void speak_for(uint32_t codeword, int32_t *reading)
+{
+    for (int i = 0; i < POSITIONS; i++)
+        if ((reading[i] < 0) != (int)(codeword >> (23 - i) & 1))
+            reading[i] = -reading[i];
+}
+
 static const int32_t *lend_reading(size_t length)
 {
     static const int32_t extremes[] = { INT32_MIN, -INT32_MAX, -1, 0, 1, INT32_MAX };
@@ -82,23 +161,13 @@ static const int32_t *lend_reading(size_t length)
         return lend(INPUT, "reading", contents, length * sizeof *reading);
     fill_reading(reading, (enum kind)(chance() % KINDS), some_codeword());
     if (chance() % 8 == 0)
+        speak_for(some_codeword(), reading);
+    if (chance() % 8 == 0)
         reading[chance() % POSITIONS] = extremes[chance() % (sizeof extremes / sizeof extremes[0])];
     return lend(INPUT, "reading", reading, length * sizeof *reading);
 }
 
 /* ---- facts */
-
-static int is_codeword(uint32_t word)
-{
-    uint32_t syndrome = 1;
-    return garthumor_syndrome(word, &syndrome) == 0 && syndrome == 0;
-}
-
-static int encodes(uint32_t message, uint32_t codeword)
-{
-    uint32_t found;
-    return garthumor_encode(message, &found) == 0 && found == codeword;
-}
 
 static uint32_t distance_between(uint32_t word, uint32_t other)
 {
@@ -106,18 +175,6 @@ static uint32_t distance_between(uint32_t word, uint32_t other)
     for (uint32_t left = word ^ other; left != 0; left &= left - 1)
         ones++;
     return ones;
-}
-
-static int is_corrected(uint32_t word)
-{
-    uint32_t codeword, distance;
-    return garthumor_correct(word, &codeword, &distance) == 0;
-}
-
-static int has_candidates(uint32_t word)
-{
-    uint32_t slots[SLOTS];
-    return garthumor_candidates(word, slots, SLOTS) == 0;
 }
 
 static int64_t correlation_of(uint32_t codeword, const int32_t *reading)
@@ -128,6 +185,16 @@ static int64_t correlation_of(uint32_t codeword, const int32_t *reading)
     return sum;
 }
 
+static int64_t figure_of(uint32_t class_number, const int32_t *reading)
+{
+    int64_t figure = INT64_MIN;
+    for (uint32_t m = 0; m < CLASS_SIZE; m++) {
+        int64_t sum = correlation_of(codewords[CLASS_SIZE * class_number + m], reading);
+        figure = sum > figure ? sum : figure;
+    }
+    return figure;
+}
+
 static uint32_t word_of_signs(const int32_t *reading)
 {
     uint32_t word = 0;
@@ -136,7 +203,89 @@ static uint32_t word_of_signs(const int32_t *reading)
     return word;
 }
 
-/* ---- what the arguments ask for, in document 01's order */
+/* The signs are a codeword, and too few confidences are zero for another to differ from it at zeros
+ * alone: no other has so large a correlation. */
+static int one_best_by_signs(const int32_t *reading)
+{
+    int zeros = 0;
+    for (int i = 0; i < POSITIONS; i++)
+        zeros += reading[i] == 0;
+    return zeros < LEAST_BETWEEN && is_codeword(word_of_signs(reading));
+}
+
+/* ---- what a look at every codeword says */
+
+static unsigned long looks;
+
+static int looked_into(void)
+{
+    int looked = chance() % LOOKED_INTO == 0;
+    looks += (unsigned long)looked;
+    return looked;
+}
+
+/* What each value of a byte adds to a correlation: its highest one negates one confidence more. */
+static void correlate_byte(const int32_t *confidences, int64_t parts[256])
+{
+    parts[0] = 0;
+    for (int i = 0; i < 8; i++)
+        parts[0] += confidences[i];
+    for (int bit = 0; bit < 8; bit++)
+        for (int value = 0; value < 1 << bit; value++)
+            parts[(1 << bit) + value] = parts[value] - 2 * (int64_t)confidences[7 - bit];
+}
+
+/* The correlation of each codeword with a reading. */
+static void correlate(const int32_t *reading, int64_t sums[MESSAGES])
+{
+    int64_t parts[WORD_BYTES][256];
+    for (int byte = 0; byte < WORD_BYTES; byte++)
+        correlate_byte(reading + 8 * byte, parts[byte]);
+    for (uint32_t m = 0; m < MESSAGES; m++)
+        sums[m] = parts[0][codewords[m] >> 16] + parts[1][codewords[m] >> 8 & 255] + parts[2][codewords[m] & 255];
+}
+
+/* The two largest, equal where two share it, and the message of the first. */
+struct top {
+    int64_t first, second;
+    uint32_t message;
+};
+
+static struct top top_of(const int64_t sums[MESSAGES])
+{
+    struct top top = { sums[0], INT64_MIN, 0 };
+    for (uint32_t m = 1; m < MESSAGES; m++)
+        if (sums[m] > top.first) {
+            top.second = top.first;
+            top.first = sums[m];
+            top.message = m;
+        } else if (sums[m] > top.second) {
+            top.second = sums[m];
+        }
+    return top;
+}
+
+static struct top soft_top(const int32_t *reading)
+{
+    int64_t sums[MESSAGES];
+    correlate(reading, sums);
+    return top_of(sums);
+}
+
+/* Of the codewords at distance 4 from the signs: what one costs, twice, is what its correlation
+ * lacks to that of the signs themselves, so the cheapest has the largest. */
+static struct top quick_top(const int32_t *reading)
+{
+    int64_t sums[MESSAGES];
+    uint32_t signs = word_of_signs(reading);
+    correlate(reading, sums);
+    for (uint32_t m = 0; m < MESSAGES; m++)
+        if (distance_between(signs, codewords[m]) != FARTHEST)
+            sums[m] = INT64_MIN;
+    return top_of(sums);
+}
+
+/* ---- what the arguments ask for, in the order of the rules */
 
 static uint8_t asked_of_reading(const int32_t *reading, size_t length)
 {
@@ -148,12 +297,17 @@ static uint8_t asked_of_reading(const int32_t *reading, size_t length)
     return 0;
 }
 
-static uint8_t asked_of_word(uint32_t word) { return word > MOST_WORD ? 4 : 0; }
+static uint8_t asked_of_word(uint32_t word) { return word >= WORDS ? 4 : 0; }
 
 static uint8_t asked_of_codeword(uint32_t word)
 {
     return asked_of_word(word) != 0 ? 4 : is_codeword(word) ? 0 : 5;
 }
+
+static uint8_t asked_of_top(struct top top) { return top.first == top.second ? 6 : 0; }
+
+/* Where nobody looks at every codeword 6 is believed. */
+static uint8_t asked_unseen(uint8_t given) { return given == 6 ? 6 : 0; }
 
 /* ---- the calls */
 
@@ -165,12 +319,10 @@ static struct outcome judged(uint8_t given, uint8_t asked, int fact, const char 
 
 static struct outcome try_encode(void)
 {
-    uint32_t message = some_number(MOST_MESSAGE + 1);
+    uint32_t message = some_number(MESSAGES);
     uint32_t *codeword = lend_output("codeword", sizeof *codeword);
     uint8_t given = garthumor_encode(message, codeword);
-    uint32_t back = 0;
-    int fact = garthumor_read(*codeword, &back) == 0 && back == message;
-    return judged(given, message > MOST_MESSAGE ? 3 : 0, fact, "the codeword reads back otherwise");
+    return judged(given, message >= MESSAGES ? 3 : 0, encodes(message, *codeword), "not the codeword of the message");
 }
 
 static struct outcome try_read(void)
@@ -178,16 +330,15 @@ static struct outcome try_read(void)
     uint32_t word = some_word();
     uint32_t *message = lend_output("message", sizeof *message);
     uint8_t given = garthumor_read(word, message);
-    return judged(given, asked_of_codeword(word), encodes(*message, word), "the message encodes otherwise");
+    return judged(given, asked_of_codeword(word), encodes(*message, word), "not the message of the codeword");
 }
 
 static struct outcome try_syndrome(void)
 {
-    uint32_t word = some_word(), message;
+    uint32_t word = some_word();
     uint32_t *syndrome = lend_output("syndrome", sizeof *syndrome);
     uint8_t given = garthumor_syndrome(word, syndrome);
-    int fact = *syndrome <= MOST_MESSAGE && (*syndrome == 0) == (garthumor_read(word, &message) == 0);
-    return judged(given, asked_of_word(word), fact, "out of range, or zero not exactly for codewords");
+    return judged(given, asked_of_word(word), *syndrome == syndrome_of(word), "not the syndrome of the word");
 }
 
 static struct outcome try_correct(void)
@@ -196,15 +347,17 @@ static struct outcome try_correct(void)
     uint32_t *codeword = lend_output("codeword", sizeof *codeword);
     uint32_t *distance = lend_output("distance", sizeof *distance);
     uint8_t given = garthumor_correct(word, codeword, distance);
-    uint8_t asked = asked_of_word(word) != 0 ? 4 : has_candidates(word) ? 7 : 0;
-    int fact = *distance <= 3 && distance_between(word, *codeword) == *distance && is_codeword(*codeword);
-    return judged(given, asked, fact, "no codeword at its distance of 0 to 3");
+    uint8_t asked = asked_of_word(word) != 0 ? 4 : distance_from_code(word) == FARTHEST ? 7 : 0;
+    int fact = is_codeword(*codeword) && *distance == distance_from_code(word) &&
+               distance_between(word, *codeword) == *distance;
+    return judged(given, asked, fact, "not the codeword at the least distance");
 }
 
+/* There are no more than six, so these are all. */
 static int are_candidates(uint32_t word, const uint32_t *slots)
 {
     for (int i = 0; i < SLOTS; i++)
-        if ((i > 0 && slots[i] <= slots[i - 1]) || distance_between(word, slots[i]) != 4 || !is_codeword(slots[i]))
+        if ((i > 0 && slots[i] <= slots[i - 1]) || !is_codeword(slots[i]) || distance_between(word, slots[i]) != FARTHEST)
             return 0;
     return 1;
 }
@@ -215,22 +368,25 @@ static struct outcome try_candidates(void)
     size_t count = some_length(SLOTS);
     uint32_t *slots = lend(OUTPUT, "slots", contents, count * sizeof *slots);
     uint8_t given = garthumor_candidates(word, slots, count);
-    uint8_t asked = count != SLOTS ? 1 : asked_of_word(word) != 0 ? 4 : is_corrected(word) ? 8 : 0;
-    int fact = given == 0 && are_candidates(word, slots);
+    uint8_t asked = count != SLOTS ? 1 : asked_of_word(word);
+    if (asked == 0 && distance_from_code(word) != FARTHEST)
+        asked = 8;
+    int fact = asked == 0 && are_candidates(word, slots);
     return judged(given, asked, fact, "not six codewords at distance 4, ascending");
 }
 
 static struct outcome try_class_figure(void)
 {
-    uint32_t class_number = some_number(MOST_CLASS + 1);
+    uint32_t class_number = some_number(CLASSES);
     size_t length = some_length(POSITIONS);
     const int32_t *reading = lend_reading(length);
     int64_t *figure = lend_output("figure", sizeof *figure);
     uint8_t given = garthumor_class_figure(reading, length, class_number, figure);
     uint8_t asked = asked_of_reading(reading, length);
-    if (asked == 0 && class_number > MOST_CLASS)
+    if (asked == 0 && class_number >= CLASSES)
         asked = 11;
-    return judged(given, asked, *figure >= 0 && *figure <= MOST_CORRELATION, "out of range");
+    int fact = asked == 0 && *figure == figure_of(class_number, reading);
+    return judged(given, asked, fact, "not the largest correlation of the class");
 }
 
 static struct outcome try_soft(void)
@@ -241,12 +397,20 @@ static struct outcome try_soft(void)
     uint32_t *codeword = lend_output("codeword", sizeof *codeword);
     int64_t *correlation = lend_output("correlation", sizeof *correlation);
     int64_t *reserve = lend_output("reserve", sizeof *reserve);
-    int64_t figure = 0;
     uint8_t given = garthumor_soft(reading, length, message, codeword, correlation, reserve);
-    int fact = given == 0 && encodes(*message, *codeword) && *reserve >= 1 && *reserve <= MOST_RESERVE &&
-               *correlation == correlation_of(*codeword, reading) &&
-               garthumor_class_figure(reading, length, *message / 32, &figure) == 0 && figure == *correlation;
-    return judged(given, asked_of_reading(reading, length), fact, "the four values do not fit each other");
+    uint8_t asked = asked_of_reading(reading, length);
+    if (asked != 0)
+        return judged(given, asked, 0, "answered");
+    int fact = encodes(*message, *codeword) && *correlation == correlation_of(*codeword, reading) &&
+               *correlation == figure_of(*message / CLASS_SIZE, reading) && *reserve >= 1 && *reserve <= MOST_RESERVE;
+    if (looked_into()) {
+        struct top top = soft_top(reading);
+        fact = fact && *message == top.message && 2 * *reserve == top.first - top.second;
+        return judged(given, asked_of_top(top), fact, "not the one largest of all, with half its lead");
+    }
+    if (one_best_by_signs(reading))
+        return judged(given, 0, fact && *codeword == word_of_signs(reading), "not the word that all signs speak for");
+    return judged(given, asked_unseen(given), fact, "the four values do not fit each other");
 }
 
 static struct outcome try_quick(void)
@@ -255,24 +419,34 @@ static struct outcome try_quick(void)
     const int32_t *reading = lend_reading(length);
     uint32_t *codeword = lend_output("codeword", sizeof *codeword);
     uint8_t given = garthumor_quick(reading, length, codeword);
-    int fact = given == 0 && is_codeword(*codeword) && distance_between(word_of_signs(reading), *codeword) <= 4;
-    return judged(given, asked_of_reading(reading, length), fact, "no codeword within distance 4 of the signs");
+    uint8_t asked = asked_of_reading(reading, length);
+    if (asked != 0)
+        return judged(given, asked, 0, "answered");
+    uint32_t signs = word_of_signs(reading), distance = distance_from_code(signs);
+    int fact = is_codeword(*codeword) && distance_between(signs, *codeword) == distance;
+    if (distance < FARTHEST)
+        return judged(given, 0, fact, "not the corrected signs");
+    if (looked_into()) {
+        struct top top = quick_top(reading);
+        return judged(given, asked_of_top(top), *codeword == codewords[top.message], "not the cheapest candidate");
+    }
+    return judged(given, asked_unseen(given), fact, "no candidate");
 }
 
 static struct outcome try_write_bytes(void)
 {
-    uint32_t word = some_word(), back = 0;
+    uint32_t word = some_word();
     size_t length = some_length(WORD_BYTES);
     uint8_t *bytes = lend(OUTPUT, "bytes", contents, length);
     uint8_t given = garthumor_write_bytes(word, bytes, length);
     uint8_t asked = length != WORD_BYTES ? 1 : asked_of_codeword(word);
-    int fact = garthumor_read_bytes(bytes, length, &back) == 0 && back == word;
-    return judged(given, asked, fact, "the bytes read back otherwise");
+    int fact = asked == 0 && bytes[0] == word >> 16 && bytes[1] == (word >> 8 & 255) && bytes[2] == (word & 255);
+    return judged(given, asked, fact, "not the bytes of the codeword");
 }
 
 static struct outcome try_read_bytes(void)
 {
-    uint32_t word = some_word() & MOST_WORD;
+    uint32_t word = some_word() % WORDS;
     uint8_t written[LONGEST_SHORT] = { (uint8_t)(word >> 16), (uint8_t)(word >> 8), (uint8_t)word };
     size_t length = some_length(WORD_BYTES);
     const uint8_t *bytes = lend(INPUT, "bytes", length > LONGEST_SHORT ? (const void *)contents : written, length);
@@ -285,42 +459,63 @@ static struct outcome try_read_bytes(void)
 static const struct {
     const char *name;
     struct outcome (*run)(void);
-    int may_tie; /* 6 is the one refusal that the arguments do not show without the decoder's work */
+    uint8_t refusals[4]; /* those that include/garthumor.h lists, and 0 */
 } calls[] = {
-    { "encode", try_encode, 0 },
-    { "read", try_read, 0 },
-    { "syndrome", try_syndrome, 0 },
-    { "correct", try_correct, 0 },
-    { "candidates", try_candidates, 0 },
-    { "class_figure", try_class_figure, 0 },
-    { "soft", try_soft, 1 },
-    { "quick", try_quick, 1 },
-    { "write_bytes", try_write_bytes, 0 },
-    { "read_bytes", try_read_bytes, 0 },
+    { "encode", try_encode, { 3 } },
+    { "read", try_read, { 4, 5 } },
+    { "syndrome", try_syndrome, { 4 } },
+    { "correct", try_correct, { 4, 7 } },
+    { "candidates", try_candidates, { 1, 4, 8 } },
+    { "class_figure", try_class_figure, { 1, 2, 11 } },
+    { "soft", try_soft, { 1, 2, 6 } },
+    { "quick", try_quick, { 1, 2, 6 } },
+    { "write_bytes", try_write_bytes, { 1, 4, 5 } },
+    { "read_bytes", try_read_bytes, { 1, 5 } },
 };
+
+enum { CALLS = sizeof calls / sizeof calls[0] };
+
+/* How often each call gave each number, 0 for an answer. */
+static unsigned long given_often[CALLS][UINT8_MAX + 1];
 
 /* One random call; prints what is wrong, and tells whether something is. */
 static int one_call(unsigned long number, int shown)
 {
-    size_t which = chance() % (sizeof calls / sizeof calls[0]);
+    size_t which = chance() % CALLS;
     struct outcome outcome = calls[which].run();
     const char *name = "its answer";
     const char *wrong = breach(outcome.given, &name);
+    if (wrong == NULL && outcome.given != outcome.asked)
+        wrong = "another number than the rules ask for";
     if (wrong == NULL)
         wrong = outcome.wrong;
-    int tied = calls[which].may_tie && outcome.asked == 0 && outcome.given == 6;
-    if (wrong == NULL && outcome.given != outcome.asked && !tied)
-        wrong = "another number than the arguments ask for";
     if (wrong != NULL && shown)
         printf("call %lu, %s, given %u, asked %u: %s: %s\n", number, calls[which].name, (unsigned)outcome.given,
                (unsigned)outcome.asked, name, wrong);
+    given_often[which][outcome.given]++;
     give_back();
     return wrong != NULL;
+}
+
+/* Prints how often a call gave each of its numbers, and tells whether that shows little: hardly an
+ * answer, or a refusal that never came. */
+static int shows_little(size_t which, unsigned long count)
+{
+    const unsigned long *often = given_often[which];
+    int little = often[0] == 0 || often[0] < count / LEAST_ANSWERED;
+    printf("%-12s answered %lu, refused", calls[which].name, often[0]);
+    for (const uint8_t *refusal = calls[which].refusals; *refusal != 0; refusal++) {
+        printf(" %u: %lu", (unsigned)*refusal, often[*refusal]);
+        little |= often[*refusal] == 0;
+    }
+    printf("%s\n", little ? ", which shows little" : "");
+    return little;
 }
 
 int main(int argc, char **argv)
 {
     unsigned long wrong = 0;
+    int little = 0;
     if (argc != 3) {
         fprintf(stderr, "usage: random SEED CALLS\n");
         return 2;
@@ -329,10 +524,14 @@ int main(int argc, char **argv)
     chance_from_seed(seed);
     printf("seed %" PRIu64 "\n", seed);
     unsigned long count = strtoul(argv[2], NULL, 10);
+    list_codewords();
+    list_distances();
     for (size_t i = 0; i < LONG; i++)
         contents[i] = chance();
     for (unsigned long number = 1; number <= count; number++)
         wrong += (unsigned long)one_call(number, wrong < SHOWN);
-    printf("%lu calls, %lu wrong\n", count, wrong);
-    return wrong != 0 || count == 0;
+    for (size_t which = 0; which < CALLS; which++)
+        little |= shows_little(which, count);
+    printf("%lu calls, %lu held to every codeword, %lu wrong\n", count, looks, wrong);
+    return wrong != 0 || little;
 }
