@@ -21,7 +21,10 @@ enum kind kind_named(const char *name)
     return (enum kind)kind;
 }
 
-static int32_t within(int32_t size) { return (int32_t)(chance() % (2u * (uint32_t)size + 1u)) - size; }
+static int32_t within(int32_t size)
+{
+    return (int32_t)((int64_t)(chance() % (2u * (uint32_t)size + 1u)) - size);
+}
 
 static int32_t confidence(enum kind kind, int one)
 {
