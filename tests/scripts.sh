@@ -58,7 +58,7 @@ tells_failures() {
         ended 1 '' 'samples: Is a directory' "$@" samples &&
         ended 1 "$header" '/proc/self/mem: Input/output error' "$@" /proc/self/mem &&
         ended 1 "$first" '*standard input: Input/output error' python3 tests/terminal.py lost target/record "$@" &&
-        ended 1 '' '*: standard input is closed' "$@" <&- &&
+        ended 1 '' '*: standard input is closed' timeout 20 "$@" <&- &&
         ended 0 "$first" '' "$@" target/record <&- &&
         ended 1 '' '*: standard output is closed' to_closed_output "$@" target/record &&
         ended 1 '' 'standard output: No space left on device' to_full_disk "$@" target/record &&
