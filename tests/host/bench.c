@@ -145,17 +145,33 @@ static double seconds_each(uint8_t (*run)(int r))
         for (long i = 0; i < count; i++)
             kept = run((int)(i % READINGS));
         clock_t spent = clock() - start;
-        if (spent > CLOCKS_PER_SEC / 2)
+        if (spent > CLOCKS_PER_SEC / 10)
             return (double)spent / CLOCKS_PER_SEC / (double)count;
     }
 }
 
+/* Of several, the one that was disturbed least. */
+static double least_seconds(uint8_t (*run)(int r))
+{
+    double least = seconds_each(run);
+    for (int again = 1; again < 5; again++) {
+        double seconds = seconds_each(run);
+        least = seconds < least ? seconds : least;
+    }
+    return least;
+}
+
+/* The first call is the one that does nothing: the host's own loop. */
 static int print_time(void)
 {
+    double each[CALLS], of_soft = 0;
     prepare(DECENT);
-    double loop = seconds_each(none), of_soft = seconds_each(soft) - loop;
+    for (int c = 0; c < CALLS; c++) {
+        each[c] = least_seconds(calls[c].run) - (c > 0 ? each[0] : 0);
+        of_soft = calls[c].run == soft ? each[c] : of_soft;
+    }
     for (int c = 1; c < CALLS; c++)
-        printf("%s %.2f\n", calls[c].name, (seconds_each(calls[c].run) - loop) / of_soft);
+        printf("%s %.2f\n", calls[c].name, each[c] / of_soft);
     return 0;
 }
 
