@@ -67,7 +67,7 @@ distance-self (b ∷ bs) = omega (arith, one-self b, distance-self bs)
 -- a family whose words differ in at least d positions, and a word that has another at exactly d
 module _ {N n d : ℕ} {word : ℕ → List Bool} (F : Family N n word)
     (apart : (m k : ℕ) → m < N → k < N → k ≢ m → d ≤ distance (word m) (word k)) (some : 1 ≤ d)
-    {m r : ℕ} (known : m < N) (below : r < N) (other : r ≢ m) (at : distance (word m) (word r) ≡ d) (s : ℕ) (loud : 1 ≤ s) where
+    {m r : ℕ} (known : m < N) (below : r < N) (other : r ≢ m) (exactly : distance (word m) (word r) ≡ d) (s : ℕ) (loud : 1 ≤ s) where
   xs : List ℤ
   xs = clean s (word m)
 
@@ -83,7 +83,7 @@ module _ {N n d : ℕ} {word : ℕ → List Bool} (F : Family N n word)
   own = let e = loses m known in let z : 0 * s ≡ 0 = omega arith in rw (distance-self (word m), z) at e
 
   runner : loss (word r) xs ≡ d * s
-  runner = rw at at (loses r below)
+  runner = rw exactly at (loses r below)
 
   others : (k : ℕ) → k < N → k ≢ m → d * s ≤ loss (word k) xs
   others k h e = omega (arith, loses k h, mul-le-mul-right s (apart m k known h e))
