@@ -4,8 +4,9 @@ use mathlib.Core.Path.{_≡_}
 use mathlib.Core.List.{List}
 use Prim.Native.Nat.{ℕ}
 use lib.IntN.{ℤ}
-use Rattle.golay.specs.Bytes.{bytesOf}
-use Rattle.golay.specs.Calls.{encodeRule, readRule, syndromeRule, writeBytesRule, readBytesRule}
+use Rattle.golay.specs.Calls.{encodeRule, readRule, syndromeRule}
+use Rattle.bytewise.specs.Bytes.{bytesOf}
+use Rattle.bytewise.specs.Calls.{writeBytesRule, readBytesRule}
 use Rattle.hard.specs.Answers.{Correction}
 use Rattle.hard.specs.Calls.{Corrects}
 use Rattle.hard.proofs.Decided.{correct-once}

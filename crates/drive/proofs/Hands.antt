@@ -3,9 +3,10 @@
 use mathlib.Core.Path.{_≡_, refl, sym, ap, _∙_}
 use mathlib.Core.List.{List}
 use Prim.Native.Nat.{ℕ}
-use Rattle.golay.specs.Answers.{Answer, accepted, refused, lent}
-use Rattle.golay.specs.Bytes.{bytesOf}
-use Rattle.golay.specs.Calls.{writeBytesRule, WritesBytes}
+use Rattle.golay.specs.Answers.{Answer, accepted, refused}
+use Rattle.bytewise.specs.Answers.{lent}
+use Rattle.bytewise.specs.Bytes.{bytesOf}
+use Rattle.bytewise.specs.Calls.{writeBytesRule, WritesBytes}
 use Rattle.hard.proofs.Decided.{candidates-once, slots-once}
 use Rattle.drive.specs.Drive.{HandsBack, HandsBackOne, HandsBackCandidates, returned, output}
 

@@ -1,16 +1,17 @@
 // The entry points for C. Each is a thin call of a room below; include/garthumor.h declares them.
-ghost use Rattle.golay.specs.Bytes.{bytesOf};
-ghost use Rattle.golay.specs.Calls.{encodeRule, readRule, syndromeRule, writeBytesRule, readBytesRule};
+ghost use Rattle.golay.specs.Calls.{encodeRule, readRule, syndromeRule};
+ghost use Rattle.bytewise.specs.Bytes.{bytesOf};
+ghost use Rattle.bytewise.specs.Calls.{writeBytesRule, readBytesRule};
 ghost use Rattle.hard.specs.Calls.{Corrects};
 ghost use Rattle.soft.specs.Calls.{ClassFigureRule, SoftRule};
 ghost use Rattle.quick.specs.Quick.{QuickRule};
 ghost use Rattle.drive.specs.Drive.{HandsBack, HandsBackOne, HandsBackCandidates, itself, correction, values};
+use bytewise::kinds::ReadBytesAnswer;
+use bytewise::kinds::WriteBytesAnswer;
 use golay::kinds::EncodeAnswer;
 use golay::kinds::Message;
 use golay::kinds::ReadAnswer;
-use golay::kinds::ReadBytesAnswer;
 use golay::kinds::SyndromeAnswer;
-use golay::kinds::WriteBytesAnswer;
 use hard::kinds::CandidatesAnswer;
 use hard::kinds::CorrectAnswer;
 use quick::kinds::QuickAnswer;
@@ -136,7 +137,7 @@ pub extern "C" fn garthumor_quick(reading: &[i32], codeword: &mut u32) -> u8
 pub extern "C" fn garthumor_write_bytes(codeword: u32, bytes: &mut [u8]) -> u8
     ensures { λ r. ⌜ HandsBack (writeBytesRule codeword (now (bytes .entry))) (λ x. bytesOf codeword) (now (bytes .entry)) (now (bytes .exit)) r ⌝ }
 {
-    match golay::write_bytes(codeword, bytes) {
+    match bytewise::write_bytes(codeword, bytes) {
         WriteBytesAnswer::Accepted => 0,
         WriteBytesAnswer::Refused(reason) => golay::refusal_number(reason),
     }
@@ -146,7 +147,7 @@ pub extern "C" fn garthumor_write_bytes(codeword: u32, bytes: &mut [u8]) -> u8
 pub extern "C" fn garthumor_read_bytes(bytes: &[u8], codeword: &mut u32) -> u8
     ensures { λ r. ⌜ HandsBack (readBytesRule (now (bytes .entry))) itself (now (codeword .entry)) (now (codeword .exit)) r ⌝ }
 {
-    match golay::read_bytes(bytes) {
+    match bytewise::read_bytes(bytes) {
         ReadBytesAnswer::Accepted(c) => {
             *codeword = c.0;
             0

@@ -15,14 +15,9 @@ use Rattle.golay.specs.declared.kinds.SyndromeAnswer.{SyndromeAnswer}
 use Rattle.golay.specs.declared.kinds.SyndromeAnswer.the-variants as syndrome
 use Rattle.golay.specs.declared.kinds.DistanceAnswer.{DistanceAnswer}
 use Rattle.golay.specs.declared.kinds.DistanceAnswer.the-variants as distance
-use Rattle.golay.specs.declared.kinds.WriteBytesAnswer.{WriteBytesAnswer}
-use Rattle.golay.specs.declared.kinds.WriteBytesAnswer.the-variants as write
-use Rattle.golay.specs.declared.kinds.ReadBytesAnswer.{ReadBytesAnswer}
-use Rattle.golay.specs.declared.kinds.ReadBytesAnswer.the-variants as bytes
 use Rattle.golay.specs.Refusals.{number}
-use Rattle.golay.specs.Answers.{Answer, accepted, refused, Refuse, lent, encodeAnswer, readAnswer, syndromeAnswer, distanceAnswer, writeBytesAnswer, readBytesAnswer}
-use Rattle.golay.specs.Bytes.{bytesOf}
-use Rattle.golay.specs.Calls.{encodeRule, readRule, syndromeRule, distanceRule, writeBytesRule, readBytesRule, WritesBytes}
+use Rattle.golay.specs.Answers.{Answer, accepted, refused, Refuse, encodeAnswer, readAnswer, syndromeAnswer, distanceAnswer}
+use Rattle.golay.specs.Calls.{encodeRule, readRule, syndromeRule, distanceRule}
 
 -- the law for all calls: where g makes an answer again from what f says of it, two answers of which f says the same are equal
 pub said-once : {A B : Type 0} (f : A → B) (g : B → A) → ((a : A) → g (f a) ≡ a) → {b : B} (x y : A) → f x ≡ b → f y ≡ b → x ≡ y
@@ -91,24 +86,6 @@ unfolding distance-again
 distance-back (distance.Accepted x) = refl
 distance-back (distance.Refused r) = ap distance.Refused (reason-number r)
 
-write-again : Answer (Unit {0}) → WriteBytesAnswer
-write-again (accepted x) = write.Accepted
-write-again (refused n) = write.Refused (reason n)
-
-write-back : (r : WriteBytesAnswer) → write-again (writeBytesAnswer r) ≡ r
-unfolding write-again
-write-back write.Accepted = refl
-write-back (write.Refused r) = ap write.Refused (reason-number r)
-
-bytes-again : Answer ℕ → ReadBytesAnswer
-bytes-again (accepted x) = bytes.Accepted (record { 0 = x })
-bytes-again (refused n) = bytes.Refused (reason n)
-
-bytes-back : (r : ReadBytesAnswer) → bytes-again (readBytesAnswer r) ≡ r
-unfolding bytes-again
-bytes-back (bytes.Accepted x) = refl
-bytes-back (bytes.Refused r) = ap bytes.Refused (reason-number r)
-
 -- ---- call by call
 
 pub encode-decided : (m : ℕ) (x y : EncodeAnswer) → encodeAnswer x ≡ encodeRule m → encodeAnswer y ≡ encodeRule m → x ≡ y
@@ -122,17 +99,3 @@ syndrome-decided word = said-once syndromeAnswer syndrome-again syndrome-back
 
 pub distance-decided : (a b : ℕ) (x y : DistanceAnswer) → distanceAnswer x ≡ distanceRule a b → distanceAnswer y ≡ distanceRule a b → x ≡ y
 distance-decided a b = said-once distanceAnswer distance-again distance-back
-
-pub readBytes-decided :
-    (bytes : List ℕ) (x y : ReadBytesAnswer) → readBytesAnswer x ≡ readBytesRule bytes → readBytesAnswer y ≡ readBytesRule bytes → x ≡ y
-readBytes-decided bytes = said-once readBytesAnswer bytes-again bytes-back
-
--- the answer and what the buffer holds afterwards
-pub writeBytes-decided :
-    (word : ℕ) (before : List ℕ) (x y : WriteBytesAnswer) (after later : List ℕ)
-    → WritesBytes word before (writeBytesAnswer x) after
-    → WritesBytes word before (writeBytesAnswer y) later
-    → (x ≡ y) × (after ≡ later)
-writeBytes-decided word before x y after later p q =
-    let e = said-once writeBytesAnswer write-again write-back x y (p .answered) (q .answered) in
-    (e, p .buffer ∙ ap (λ (r : WriteBytesAnswer). lent (writeBytesAnswer r) before (bytesOf word)) e ∙ sym (q .buffer))

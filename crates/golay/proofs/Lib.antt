@@ -1,4 +1,3 @@
 pub mod Rules
-pub mod Bytes
 pub mod Decided
 pub mod RoundTrips

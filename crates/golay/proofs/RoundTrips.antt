@@ -1,4 +1,4 @@
--- Encoding and reading back undo each other, and so do writing and reading bytes: stated of what the calls answer.
+-- Encoding and reading back undo each other: stated of what the calls answer.
 -- Assumes nothing.
 use mathlib.Core.Path.{_≡_, refl, sym, ap, _∙_}
 use mathlib.Core.Bool.{Bool, true, false}
@@ -9,10 +9,8 @@ use borrow.Author.Tests.{leb-true, leb-false}
 use Rattle.code.specs.Code.{messages, words, isCodeword, codewordOf, messageOf}
 use Rattle.code.proofs.Encoding.{codeword-lt, codewordOf-codeword, message-codeword, codeword-message, message-lt}
 use Rattle.golay.specs.Answers.{Answer, accepted, refused}
-use Rattle.golay.specs.Bytes.{bytesOf}
-use Rattle.golay.specs.Calls.{encodeRule, readRule, readBytesRule}
-use Rattle.golay.proofs.Rules.{encode-within, read-above, read-outside, read-inside, bytes-inside}
-use Rattle.golay.proofs.Bytes.{word-bytes}
+use Rattle.golay.specs.Calls.{encodeRule, readRule}
+use Rattle.golay.proofs.Rules.{encode-within, read-above, read-outside, read-inside}
 
 T-true : (b : Bool) → T b → b ≡ true
 T-true true t = refl
@@ -46,9 +44,3 @@ read-encodes word m r = above (leb words word) refl
     above : (b : Bool) → leb words word ≡ b → encodeRule m ≡ accepted word
     above true e = never (read-above word (leb-true words word e)) r
     above false e = inside (leb-false words word e) (isCodeword word) refl
-
--- a codeword comes back from its three bytes
-pub written-reads : (word : ℕ) → word < words → isCodeword word ≡ true → readBytesRule (bytesOf word) ≡ accepted word
-written-reads word h e =
-    let w = word-bytes word h in
-    bytes-inside (bytesOf word) refl (ap isCodeword w ∙ e) ∙ ap accepted w

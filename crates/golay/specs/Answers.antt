@@ -1,4 +1,4 @@
--- Rules 11.2, 11.4, 11.5 and 15.5: an answer of any call is values, or the number of a refusal. Each call's own answer is read as one here.
+-- Rules 11.2, 11.4 and 15.5: an answer of any call is values, or the number of a refusal. Each call's own answer is read as one here.
 use mathlib.Core.Path.{_≡_}
 use mathlib.Core.Bool.{Bool, true, false}
 use Prim.Native.Nat.{ℕ}
@@ -11,10 +11,6 @@ use Rattle.golay.specs.declared.kinds.SyndromeAnswer.{SyndromeAnswer}
 use Rattle.golay.specs.declared.kinds.SyndromeAnswer.the-variants as syndrome
 use Rattle.golay.specs.declared.kinds.DistanceAnswer.{DistanceAnswer}
 use Rattle.golay.specs.declared.kinds.DistanceAnswer.the-variants as distance
-use Rattle.golay.specs.declared.kinds.WriteBytesAnswer.{WriteBytesAnswer}
-use Rattle.golay.specs.declared.kinds.WriteBytesAnswer.the-variants as write
-use Rattle.golay.specs.declared.kinds.ReadBytesAnswer.{ReadBytesAnswer}
-use Rattle.golay.specs.declared.kinds.ReadBytesAnswer.the-variants as bytes
 use Rattle.golay.specs.Refusals.{number}
 
 -- Rule 11.4: values, or a number and no value beside it
@@ -33,11 +29,6 @@ module _ {A : Type 0} where
   Refuse reason true Next answer = answer ≡ refused (number reason)
   Refuse reason false Next answer = Next answer
 
-  -- Rule 11.5: what lent memory holds after the call: on a refusal, what it held before
-  abbrev pub lent : {M : Type 0} → Answer A → M → M → M
-  lent (accepted x) before after = after
-  lent (refused n) before after = before
-
 -- Rule 15.5: the answers of the calls, each case by its values or its number
 abbrev pub encodeAnswer : EncodeAnswer → Answer ℕ
 encodeAnswer (encode.Accepted codeword) = accepted (codeword .0)
@@ -54,12 +45,3 @@ syndromeAnswer (syndrome.Refused reason) = refused (number reason)
 abbrev pub distanceAnswer : DistanceAnswer → Answer ℕ
 distanceAnswer (distance.Accepted d) = accepted d
 distanceAnswer (distance.Refused reason) = refused (number reason)
-
--- accepted with no value: what was written shows in the buffer
-abbrev pub writeBytesAnswer : WriteBytesAnswer → Answer (Unit {0})
-writeBytesAnswer write.Accepted = accepted tt
-writeBytesAnswer (write.Refused reason) = refused (number reason)
-
-abbrev pub readBytesAnswer : ReadBytesAnswer → Answer ℕ
-readBytesAnswer (bytes.Accepted codeword) = accepted (codeword .0)
-readBytesAnswer (bytes.Refused reason) = refused (number reason)

@@ -1,5 +1,4 @@
 -- Rule 11.3: what each call answers, for every input, its refusals in the order of rule 11.2.
-use mathlib.Core.Path.{_≡_}
 use mathlib.Core.Bool.{Bool, not, _||_}
 use mathlib.Core.List.{List}
 use Prim.Native.Nat.{ℕ}
@@ -7,9 +6,8 @@ use lib.Dec.{leb, eqb}
 use lib.ListN.{length}
 use Rattle.binary.specs.Words.{distance}
 use Rattle.code.specs.Code.{messages, words, isCodeword, codewordOf, messageOf, syndromeOf}
-use Rattle.golay.specs.declared.kinds.Refusal.the-variants.{WrongLength, MessageAbove, WordAbove, NotCodeword}
-use Rattle.golay.specs.Answers.{Answer, accepted, refuse, lent}
-use Rattle.golay.specs.Bytes.{bytesOf, wordOf}
+use Rattle.golay.specs.declared.kinds.Refusal.the-variants.{MessageAbove, WordAbove, NotCodeword}
+use Rattle.golay.specs.Answers.{Answer, accepted, refuse}
 
 -- Rule 11.1, number 3: a message exceeds 4,095
 abbrev pub messageAbove : ℕ → Bool
@@ -38,19 +36,3 @@ syndromeRule word = refuse WordAbove (wordAbove word) (accepted (syndromeOf word
 -- Rule 11.3, distance: 4 for either word, or the distance (5.1)
 unfoldable pub distanceRule : ℕ → ℕ → Answer ℕ
 distanceRule a b = refuse WordAbove (wordAbove a || wordAbove b) (accepted (distance 24 a b))
-
--- Rule 11.3, write bytes: 1, then 4, then 5, or no refusal
-unfoldable pub writeBytesRule : ℕ → List ℕ → Answer (Unit {0})
-writeBytesRule word buffer =
-    refuse WrongLength (wrongLength 3 buffer)
-    (refuse WordAbove (wordAbove word) (refuse NotCodeword (not (isCodeword word)) (accepted tt)))
-
--- Rules 10.2 and 11.5: the answer, and the buffer's contents before and after the call
-pub record WritesBytes (word : ℕ) (before : List ℕ) (answer : Answer (Unit {0})) (after : List ℕ) : Type 0 where
-  pub answered : answer ≡ writeBytesRule word before
-  pub buffer : after ≡ lent answer before (bytesOf word)
-
--- Rule 11.3, read bytes: 1, then 5, or the codeword (10.3)
-unfoldable pub readBytesRule : List ℕ → Answer ℕ
-readBytesRule bytes =
-    refuse WrongLength (wrongLength 3 bytes) (refuse NotCodeword (not (isCodeword (wordOf bytes))) (accepted (wordOf bytes)))

@@ -1,5 +1,4 @@
 pub mod Refusals
 pub mod Answers
 pub mod Bytes
-pub mod Columns
 pub mod Calls

@@ -41,13 +41,3 @@ pub enum DistanceAnswer {
     Accepted(u32),
     Refused(Refusal),
 }
-
-pub enum WriteBytesAnswer {
-    Accepted,
-    Refused(Refusal),
-}
-
-pub enum ReadBytesAnswer {
-    Accepted(Codeword),
-    Refused(Refusal),
-}

@@ -14,9 +14,9 @@ mod table;
 use golay::kinds::Codeword;
 use golay::kinds::Refusal;
 use golay::kinds::SyndromeAnswer;
-use golay::rows::SYNDROMES;
 use kinds::CandidatesAnswer;
 use kinds::CorrectAnswer;
+use rows::SYNDROMES;
 
 // The pattern of a syndrome. Where the compiler can tell which entries of a constant are read, the constant becomes a table in the program's
 // text; an index that the program computes makes it write the constant to the stack at each use. So a loop, which the compiler lays out turn

@@ -1,8 +1,9 @@
--- `drive::garthumor_read_bytes` meets its contract, by that of `golay::read_bytes`.
+-- `drive::garthumor_read_bytes` meets its contract, by that of `bytewise::read_bytes`.
 -- Assumes nothing.
 use mathlib.Core.Path.{ap, sym, _∙_}
 use borrow.Author.Needs.{needs}
-use Rattle.golay.specs.Answers.{refused, readBytesAnswer}
+use Rattle.golay.specs.Answers.{refused}
+use Rattle.bytewise.specs.Answers.{readBytesAnswer}
 use Rattle.drive.proofs.Hands.{hands-value, hands-refusal}
 use Rattle.drive.proofs.garthumor_read_bytes.Statement.{statement}
 use Rattle.drive.proofs.garthumor_read_bytes.Tie as tie

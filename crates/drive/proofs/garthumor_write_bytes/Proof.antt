@@ -1,8 +1,8 @@
--- `drive::garthumor_write_bytes` meets its contract, by that of `golay::write_bytes`.
+-- `drive::garthumor_write_bytes` meets its contract, by that of `bytewise::write_bytes`.
 -- Assumes nothing.
 use mathlib.Core.Path.{ap, sym, _∙_}
 use borrow.Author.Needs.{needs}
-use Rattle.golay.specs.Answers.{refused, writeBytesAnswer}
+use Rattle.bytewise.specs.Answers.{writeBytesAnswer}
 use Rattle.drive.specs.Drive.{returned}
 use Rattle.drive.proofs.Hands.{hands-bytes}
 use Rattle.drive.proofs.garthumor_write_bytes.Statement.{statement}

@@ -1,7 +1,9 @@
 -- `golay::syndrome` meets its contract.
 -- Assumes nothing.
 use mathlib.Core.Path.{_∙_, sym, ap}
+use native.Mathlib.Nat.{mod-eq-of-lt}
 use borrow.Author.Needs.{needs}
+use Rattle.code.specs.Code.{syndromeOf}
 use Rattle.golay.specs.Answers.{accepted}
 use Rattle.golay.proofs.Rules.{syndrome-above, syndrome-within}
 use Rattle.golay.proofs.syndrome.Statement.{statement}
@@ -16,7 +18,8 @@ syndrome-of-requires c κs = search needs
 returns-2 : tie.Need-returns-2
 returns-2 c =
     let start = c .before .before in
-    ap accepted (c .syndrome-of .ensures) ∙ sym (syndrome-within (start .args .word) (c .before .if1 .left))
+    let h = c .before .if1 .left in
+    ap accepted (c .syndrome-of .ensures ∙ ap syndromeOf (mod-eq-of-lt h)) ∙ sym (syndrome-within (start .args .word) h)
 
 pub syndrome-spec : {M : Type 1} → statement M
 syndrome-spec = tie.close (tie.spec returns syndrome-of-requires returns-2)

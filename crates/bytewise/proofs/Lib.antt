@@ -1,0 +1,4 @@
+pub mod Rules
+pub mod Bytes
+pub mod Decided
+pub mod RoundTrips
