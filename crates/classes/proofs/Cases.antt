@@ -12,8 +12,8 @@ use lib.IntN.{pos}
 use lib.ListN.{length, replicate}
 use Rattle.signed.proofs.Parts.{ints}
 use Rattle.code.specs.Code.{messages, codewordOf}
-use Rattle.code.proofs.Encoding.{codewordOf-codeword, codeword-lt, codeword-injective}
-use Rattle.code.proofs.Distances.{codeword-distance}
+use Rattle.algebra.proofs.Encoding.{codewordOf-codeword, codeword-lt, codeword-injective}
+use Rattle.algebra.proofs.Distances.{codeword-distance}
 use Rattle.contest.specs.Words.{one, distance}
 use Rattle.contest.specs.Readings.{Reading, correlation, clean, scores}
 use Rattle.contest.specs.Largest.{Largest}

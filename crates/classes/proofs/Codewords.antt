@@ -13,7 +13,8 @@ use Rattle.binary.specs.Words.{ones}
 use Rattle.binary.proofs.Xor.{xor-back}
 use Rattle.binary.proofs.Linear.{rowSum-add}
 use Rattle.code.specs.Code.{messages, positions, codewordOf}
-use Rattle.code.proofs.Encoding.{codewordRows, codeword-rows, codeword-lt, codeword-injective}
+use Rattle.code.proofs.Twelve.{codewordRows}
+use Rattle.algebra.proofs.Encoding.{codeword-rows, codeword-lt, codeword-injective}
 use Rattle.contest.specs.Words.{Family, distance}
 use Rattle.contest.specs.Readings.{Reading}
 use Rattle.contest.specs.Answers.{Accepted}

@@ -1,5 +1,4 @@
 pub mod Cases
+pub mod Twelve
 pub mod Columns
 pub mod Syndromes
-pub mod Encoding
-pub mod Distances

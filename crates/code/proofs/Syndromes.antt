@@ -1,6 +1,6 @@
 -- The syndrome of a sum is the sum of the syndromes (4.3), so it is a row for each position; and the codewords are the words where it is 0 (4.2).
 -- Assumes nothing.
-use mathlib.Core.Path.{_≡_, refl, ap, ap₂, _∙_}
+use mathlib.Core.Path.{_≡_, refl, ap₂}
 use mathlib.Core.Bool.{Bool, true, false, _&&_}
 use mathlib.Core.List.{List, [], _∷_, map}
 use Prim.Native.Nat.{ℕ, _+_, _*_, _^_, _<_}

@@ -7,7 +7,7 @@ use native.Mathlib.Omega.{arith}
 use lib.Dec.{T, leb}
 use borrow.Author.Tests.{leb-true, leb-false}
 use Rattle.code.specs.Code.{messages, words, isCodeword, codewordOf, messageOf}
-use Rattle.code.proofs.Encoding.{codeword-lt, codewordOf-codeword, message-codeword, codeword-message, message-lt}
+use Rattle.algebra.proofs.Encoding.{codeword-lt, codewordOf-codeword, message-codeword, codeword-message, message-lt}
 use Rattle.golay.specs.Answers.{Answer, accepted, refused}
 use Rattle.golay.specs.Calls.{encodeRule, readRule}
 use Rattle.golay.proofs.Rules.{encode-within, read-above, read-outside, read-inside}

@@ -10,7 +10,7 @@ use Rattle.binary.specs.Words.{ones, distance}
 use Rattle.binary.proofs.Xor.{xor-back, xor-zero-eq}
 use Rattle.code.specs.Code.{words, isCodeword, syndromeOf}
 use Rattle.code.proofs.Syndromes.{syndrome-add, codeword-zero, zero-codeword}
-use Rattle.code.proofs.Distances.{codeword-ones}
+use Rattle.algebra.proofs.Distances.{codeword-ones}
 use Rattle.patterns.specs.Patterns.{IsPattern}
 use Rattle.patterns.specs.Nearest.{Nearest}
 use Rattle.binary.proofs.Places.{ones-xor}

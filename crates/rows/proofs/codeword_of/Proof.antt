@@ -6,7 +6,8 @@ use native.Mathlib.Nat.{mod-lt}
 use lib.Pow.{pow-pos}
 use borrow.Author.Needs.{needs}
 use Rattle.code.specs.Code.{messages}
-use Rattle.code.proofs.Encoding.{codewordRows, codeword-rows}
+use Rattle.code.proofs.Twelve.{codewordRows}
+use Rattle.algebra.proofs.Encoding.{codeword-rows}
 use Rattle.rows.proofs.Lowest.{lowest}
 use Rattle.rows.proofs.codeword_of.Statement.{statement}
 use Rattle.rows.proofs.codeword_of.Tie as tie

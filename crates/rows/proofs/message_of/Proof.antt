@@ -6,7 +6,7 @@ use native.Mathlib.Nat.{mod-lt}
 use lib.Pow.{pow-pos}
 use borrow.Author.Needs.{needs}
 use Rattle.code.specs.Code.{words}
-use Rattle.code.proofs.Encoding.{messageRows, message-rows}
+use Rattle.algebra.proofs.Encoding.{messageRows, message-rows}
 use Rattle.rows.proofs.Lowest.{lowest}
 use Rattle.rows.proofs.message_of.Statement.{statement}
 use Rattle.rows.proofs.message_of.Tie as tie

@@ -1,24 +1,20 @@
 -- The table of twelve codewords follows from the column rule. Encoding gives codewords; each codeword below 2^24 is the encoding of exactly
 -- one message; reading back and encoding undo each other.
 -- Assumes nothing.
-use mathlib.Core.Path.{_≡_, refl, sym, ap, ap₂, _∙_}
+use mathlib.Core.Path.{_≡_, refl, sym, ap, _∙_}
 use mathlib.Core.Bool.{Bool}
 use mathlib.Core.List.{List, [], _∷_}
-use Prim.Native.Nat.{ℕ, _+_, _*_, _^_, _<_}
+use Prim.Native.Nat.{ℕ, _<_}
 use lib.Dec.{T, eqb, eqb→eq}
 use lib.Bits.{bitXor}
 use Rattle.binary.specs.Words.{rowSum}
 use Rattle.binary.proofs.Tests.{all, below}
 use Rattle.binary.proofs.Xor.{xor-zero-eq}
 use Rattle.binary.proofs.Linear.{Additive, additive-after, additive-sum, rowSum-add, rowSum-lt, agree}
 use Rattle.code.specs.Code.{messages, words, isCodeword, codewordOf, messageOf, syndromeOf}
+use Rattle.code.proofs.Twelve.{codewordRows}
 use Rattle.code.proofs.Columns.{Added, side-by-side, parity-read, top-read, projection-read}
-use Rattle.code.proofs.Syndromes.{syndrome-add, syndromeRows, syndrome-rows, codeword-zero, zero-codeword}
-
--- Rule 3.6's table, from message 001 up to message 800
-abbrev pub codewordRows : List ℕ
-codewordRows =
-    0x0000FF ∷ 0x000F0F ∷ 0x00F00F ∷ 0x0F000F ∷ 0xF0000F ∷ 0x003333 ∷ 0x005555 ∷ 0x030356 ∷ 0x050563 ∷ 0x300365 ∷ 0x500536 ∷ 0x777778 ∷ []
+use Rattle.code.proofs.Syndromes.{syndrome-add, codeword-zero, zero-codeword}
 
 rule : ℕ → Bool
 rule m = eqb (codewordOf m) (rowSum codewordRows m)

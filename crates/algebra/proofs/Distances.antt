@@ -1,7 +1,7 @@
 -- Rule 2.3: the code is closed under exclusive or, and two codewords that are not the same stand at distance 8 or more, by a computed test of
 -- the ones of all codewords but zero.
 -- Assumes nothing.
-use mathlib.Core.Path.{_≡_, refl, sym, ap, ap₂, _∙_, subst}
+use mathlib.Core.Path.{_≡_, refl, sym, ap₂, _∙_, subst}
 use mathlib.Core.Logic.{_≢_}
 use mathlib.Core.Bool.{Bool}
 use Prim.Native.Nat.{ℕ, zero, suc, _≤_, _<_}
@@ -11,9 +11,10 @@ use lib.Bits.{bitXor, xor-lt}
 use Rattle.binary.specs.Words.{ones, distance, rowSum}
 use Rattle.binary.proofs.Tests.{all, below}
 use Rattle.binary.proofs.Xor.{xor-zero-eq}
-use Rattle.code.specs.Code.{messages, words, isCodeword, codewordOf, messageOf, syndromeOf}
+use Rattle.code.specs.Code.{messages, words, isCodeword, messageOf}
 use Rattle.code.proofs.Syndromes.{syndrome-add, codeword-zero, zero-codeword}
-use Rattle.code.proofs.Encoding.{codewordRows, codeword-rows, message-lt, codeword-message}
+use Rattle.code.proofs.Twelve.{codewordRows}
+use Rattle.algebra.proofs.Encoding.{codeword-rows, message-lt, codeword-message}
 
 pub codeword-xor : (a b : ℕ) → T (isCodeword a) → T (isCodeword b) → T (isCodeword (bitXor a b))
 codeword-xor a b s t = zero-codeword (bitXor a b) (syndrome-add a b ∙ ap₂ bitXor (codeword-zero a s) (codeword-zero b t))
