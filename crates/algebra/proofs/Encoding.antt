@@ -1,31 +1,67 @@
--- The table of twelve codewords follows from the column rule. Encoding gives codewords; each codeword below 2^24 is the encoding of exactly
--- one message; reading back and encoding undo each other.
+-- Encoding and reading back are linear, so all codewords are sums of the twelve (3.6). Encoding gives codewords; each codeword below 2^24 is
+-- the encoding of exactly one message; reading back and encoding undo each other.
 -- Assumes nothing.
 use mathlib.Core.Path.{_≡_, refl, sym, ap, _∙_}
-use mathlib.Core.Bool.{Bool}
 use mathlib.Core.List.{List, [], _∷_}
-use Prim.Native.Nat.{ℕ, _<_}
-use lib.Dec.{T, eqb, eqb→eq}
+use Prim.Native.Nat.{ℕ, _+_, _*_, _%_, _<_}
+use native.Mathlib.Nat.{add-assoc}
+use lib.Dec.{T, lit<}
 use lib.Bits.{bitXor}
+use lib.ListN.{getD}
 use Rattle.binary.specs.Words.{rowSum}
-use Rattle.binary.proofs.Tests.{all, below}
 use Rattle.binary.proofs.Xor.{xor-zero-eq}
 use Rattle.binary.proofs.Linear.{Additive, additive-after, additive-sum, rowSum-add, rowSum-lt, agree}
-use Rattle.code.specs.Code.{messages, words, isCodeword, codewordOf, messageOf, syndromeOf}
-use Rattle.code.proofs.Twelve.{codewordRows}
-use Rattle.code.proofs.Columns.{Added, side-by-side, parity-read, top-read, projection-read}
+use Rattle.code.specs.Array.{total, interpretations, interpretation}
+use Rattle.code.specs.Code.{messages, words, bitOf, topBits, isCodeword, codewordOf, messageOf, syndromeOf}
+use Rattle.code.proofs.Twelve.{codewordRows, twelve-codewords}
+use Rattle.code.proofs.Columns.{Added, AddedParity, added-xor, side-by-side, added-plus, bits-read, made, times-w, times-v, bit-parity, no-parity, parity-read, top-read, projection-read}
 use Rattle.code.proofs.Syndromes.{syndrome-add, codeword-zero, zero-codeword}
 
-rule : ℕ → Bool
-rule m = eqb (codewordOf m) (rowSum codewordRows m)
+-- ---- the codeword, as a row for each bit of the message
 
-rule-holds : T (all rule messages)
-unfolding rule codewordOf
-rule-holds = tt
+none : Added 0 0 0 0
+none = record { sum = refl; left = lit< tt; right = lit< tt }
+
+-- a column, from its parity, its character and its top bit
+column-added :
+    {p x t p′ x′ t′ p″ x″ t″ : ℕ}
+    → Added 1 p p′ p″
+    → Added 2 x x′ x″
+    → Added 1 t t′ t″
+    → Added 4 (interpretation p x t) (interpretation p′ x′ t′) (interpretation p″ x″ t″)
+column-added {p} {x} {t} {p′} {x′} {t′} {p″} {x″} {t″} s c u =
+    let place : Added 4 (p * 8 + x * 2 + t) (p′ * 8 + x′ * 2 + t′) (p″ * 8 + x″ * 2 + t″) =
+    rw (add-assoc (p * 8) (x * 2) t, add-assoc (p′ * 8) (x′ * 2) t′, add-assoc (p″ * 8) (x″ * 2) t″)
+    (side-by-side 3 s (side-by-side 1 c u)) in
+    made (λ n. getD interpretations n 0) (0b1111 ∷ 0b0011 ∷ 0b0101 ∷ 0b0111 ∷ []) 4 4 tt tt place
+
+module _ (m k : ℕ) where
+  sixth-top-added : Added 1 ((bitOf 11 m + total (topBits m)) % 2) ((bitOf 11 k + total (topBits k)) % 2) ((bitOf 11 (bitXor m k) + total (topBits (bitXor m k))) % 2)
+  sixth-top-added =
+      let t : (i : ℕ) → AddedParity (bitOf i m) (bitOf i k) (bitOf i (bitXor m k)) = λ i. bit-parity (bits-read 1 m k i) in
+      added-plus (t 11) (added-plus (t 4) (added-plus (t 3) (added-plus (t 2) (added-plus (t 1) (added-plus (t 0) no-parity))))) .parities
+
+  codeword-added : Added 24 (codewordOf m) (codewordOf k) (codewordOf (bitXor m k))
+  unfolding codewordOf
+  codeword-added =
+      let p = bits-read 1 m k 11 in
+      let a = bits-read 2 m k 9 in
+      let b = bits-read 2 m k 7 in
+      let c = bits-read 2 m k 5 in
+      let t = bits-read 1 m k in
+      side-by-side 20 (column-added p a (t 4))
+      (side-by-side 16 (column-added p b (t 3))
+      (side-by-side 12 (column-added p c (t 2))
+      (side-by-side 8 (column-added p (added-xor (added-xor a b) c) (t 1))
+      (side-by-side 4 (column-added p (added-xor (added-xor (times-v a) (times-w b)) c) (t 0))
+      (side-by-side 0 (column-added p (added-xor (added-xor (times-w a) (times-v b)) c) sixth-top-added)
+      none)))))
+
+codeword-add : Additive codewordOf
+codeword-add m k = codeword-added m k .sum
 
 pub codeword-rows : (m : ℕ) → m < messages → codewordOf m ≡ rowSum codewordRows m
-unfolding rule
-codeword-rows m h = eqb→eq (codewordOf m) (rowSum codewordRows m) (below rule messages rule-holds m h)
+codeword-rows = agree codewordOf (rowSum codewordRows) codeword-add (rowSum-add codewordRows) 12 twelve-codewords
 
 -- ---- the message, as a row for each position, position 24 first
 

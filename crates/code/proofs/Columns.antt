@@ -51,64 +51,65 @@ parity-plus : (x y : ℕ) → (x + y) % 2 ≡ bitXor (x % 2) (y % 2)
 parity-plus x y = same-parity (bitXor x y) (bitAnd x y) x y (xor-add-and x y) ∙ xor-mod x y 1
 
 -- the parity of z is the sum of those of x and y
-record AddedParity (x y z : ℕ) : Type 0 where
-  parities : Added 1 (x % 2) (y % 2) (z % 2)
+pub record AddedParity (x y z : ℕ) : Type 0 where
+  pub parities : Added 1 (x % 2) (y % 2) (z % 2)
 
-added-plus : {x y z x′ y′ z′ : ℕ} → AddedParity x y z → AddedParity x′ y′ z′ → AddedParity (x + x′) (y + y′) (z + z′)
+pub added-plus : {x y z x′ y′ z′ : ℕ} → AddedParity x y z → AddedParity x′ y′ z′ → AddedParity (x + x′) (y + y′) (z + z′)
 added-plus {x} {y} {z} {x′} {y′} {z′} s t = record
     { parities = rw (parity-plus x x′, parity-plus y y′, parity-plus z z′) (added-xor (s .parities) (t .parities)) }
 
--- f is the row sum of the rows at a column
+-- k bits of a word, s up
+pub bits-read : (k a b s : ℕ) → Added k (a / 2 ^ s % 2 ^ k) (b / 2 ^ s % 2 ^ k) (bitXor a b / 2 ^ s % 2 ^ k)
+bits-read k a b s = record {
+  sum = ap (λ (x : ℕ). x % 2 ^ k) (xor-shr a b s) ∙ xor-mod (a / 2 ^ s) (b / 2 ^ s) k;
+  left = mod-lt (a / 2 ^ s) (pow-pos k);
+  right = mod-lt (b / 2 ^ s) (pow-pos k);
+}
+
+-- f is the row sum of the rows at x
 abbrev linear : (ℕ → ℕ) → List ℕ → ℕ → Bool
-linear f rows col = eqb (f col) (rowSum rows col)
+linear f rows x = eqb (f x) (rowSum rows x)
 
-module _ (f : ℕ → ℕ) (rows : List ℕ) (t : T (all (linear f rows) 16)) where
-  at-column : (s word : ℕ) → f (word / 2 ^ s % 2 ^ 4) ≡ rowSum rows (word / 2 ^ s % 2 ^ 4)
-  at-column s word =
-      let col = word / 2 ^ s % 2 ^ 4 in
-      eqb→eq (f col) (rowSum rows col) (below (linear f rows) 16 t col (mod-lt (word / 2 ^ s) (pow-pos 4)))
+-- what f, which is linear on j bits, makes of two numbers and of their sum
+pub made :
+    (f : ℕ → ℕ) (rows : List ℕ) (j k : ℕ) → T (all (linear f rows) (2 ^ j)) → T (short k rows)
+    → {x y z : ℕ} → Added j x y z → Added k (f x) (f y) (f z)
+made f rows j k t q {x} {y} {z} s =
+    let at : (w : ℕ) → w < 2 ^ j → f w ≡ rowSum rows w = λ w h. eqb→eq (f w) (rowSum rows w) (below (linear f rows) (2 ^ j) t w h) in
+    record {
+      sum =
+          ap f (s .sum) ∙ at (bitXor x y) (xor-lt j x y (s .left) (s .right))
+          ∙ rowSum-add rows x y ∙ sym (ap₂ bitXor (at x (s .left)) (at y (s .right)));
+      left = rw (at x (s .left)) (rowSum-lt k rows q x);
+      right = rw (at y (s .right)) (rowSum-lt k rows q y);
+    }
 
-  -- what f reads off the column that stands s bits up, of two words and of their sum
-  read-off : (k : ℕ) → T (short k rows) → (a b s : ℕ) → Added k (f (a / 2 ^ s % 2 ^ 4)) (f (b / 2 ^ s % 2 ^ 4)) (f (bitXor a b / 2 ^ s % 2 ^ 4))
-  read-off k q a b s = record {
-    sum =
-        at-column s (bitXor a b)
-        ∙ ap (rowSum rows) (ap (λ (x : ℕ). x % 2 ^ 4) (xor-shr a b s) ∙ xor-mod (a / 2 ^ s) (b / 2 ^ s) 4)
-        ∙ rowSum-add rows (a / 2 ^ s % 2 ^ 4) (b / 2 ^ s % 2 ^ 4)
-        ∙ sym (ap₂ bitXor (at-column s a) (at-column s b));
-    left = rw (at-column s a) (rowSum-lt k rows q (a / 2 ^ s % 2 ^ 4));
-    right = rw (at-column s b) (rowSum-lt k rows q (b / 2 ^ s % 2 ^ 4));
-  }
+pub times-w : {x y z : ℕ} → Added 2 x y z → Added 2 (x ⊗ w) (y ⊗ w) (z ⊗ w)
+times-w = made (λ x. x ⊗ w) (2 ∷ 3 ∷ []) 2 2 tt tt
+
+pub times-v : {x y z : ℕ} → Added 2 x y z → Added 2 (x ⊗ v) (y ⊗ v) (z ⊗ v)
+times-v = made (λ x. x ⊗ v) (3 ∷ 1 ∷ []) 2 2 tt tt
+
+pub bit-parity : {x y z : ℕ} → Added 1 x y z → AddedParity x y z
+bit-parity s = record { parities = made (λ x. x % 2) (1 ∷ []) 1 1 tt tt s }
+
+pub no-parity : AddedParity 0 0 0
+no-parity = record { parities = record { sum = refl; left = lit< tt; right = lit< tt } }
 
 module _ (a b : ℕ) where
   pub parity-read : (s : ℕ) → Added 1 (parity (a / 2 ^ s % 16)) (parity (b / 2 ^ s % 16)) (parity (bitXor a b / 2 ^ s % 16))
-  parity-read = read-off parity (1 ∷ 1 ∷ 1 ∷ 1 ∷ []) tt 1 tt a b
+  parity-read s = made parity (1 ∷ 1 ∷ 1 ∷ 1 ∷ []) 4 1 tt tt (bits-read 4 a b s)
 
   pub top-read : (s : ℕ) → Added 1 (bit 1 (a / 2 ^ s % 16)) (bit 1 (b / 2 ^ s % 16)) (bit 1 (bitXor a b / 2 ^ s % 16))
-  top-read = read-off (bit 1) (0 ∷ 0 ∷ 0 ∷ 1 ∷ []) tt 1 tt a b
+  top-read s = made (bit 1) (0 ∷ 0 ∷ 0 ∷ 1 ∷ []) 4 1 tt tt (bits-read 4 a b s)
 
   pub projection-read : (s : ℕ) → Added 2 (projection (a / 2 ^ s % 16)) (projection (b / 2 ^ s % 16)) (projection (bitXor a b / 2 ^ s % 16))
-  projection-read = read-off projection (3 ∷ 2 ∷ 1 ∷ 0 ∷ []) tt 2 tt a b
-
-  pub projection-w-read :
-      (s : ℕ) → Added 2 (projection (a / 2 ^ s % 16) ⊗ w) (projection (b / 2 ^ s % 16) ⊗ w) (projection (bitXor a b / 2 ^ s % 16) ⊗ w)
-  projection-w-read = read-off (λ col. projection col ⊗ w) (1 ∷ 3 ∷ 2 ∷ 0 ∷ []) tt 2 tt a b
-
-  pub projection-v-read :
-      (s : ℕ) → Added 2 (projection (a / 2 ^ s % 16) ⊗ v) (projection (b / 2 ^ s % 16) ⊗ v) (projection (bitXor a b / 2 ^ s % 16) ⊗ v)
-  projection-v-read = read-off (λ col. projection col ⊗ v) (2 ∷ 1 ∷ 3 ∷ 0 ∷ []) tt 2 tt a b
-
-  top-parity : (s : ℕ) → AddedParity (bit 1 (a / 2 ^ s % 16)) (bit 1 (b / 2 ^ s % 16)) (bit 1 (bitXor a b / 2 ^ s % 16))
-  top-parity s = record { parities = read-off (λ col. bit 1 col % 2) (0 ∷ 0 ∷ 0 ∷ 1 ∷ []) tt 1 tt a b s }
-
-  none : AddedParity 0 0 0
-  none = record { parities = record { sum = refl; left = lit< tt; right = lit< tt } }
+  projection-read s = made projection (3 ∷ 2 ∷ 1 ∷ 0 ∷ []) 4 2 tt tt (bits-read 4 a b s)
 
   pub topRow-read : Added 1 (topRow a) (topRow b) (topRow (bitXor a b))
   topRow-read =
-      added-plus (top-parity 20)
-      (added-plus (top-parity 16)
-      (added-plus (top-parity 12) (added-plus (top-parity 8) (added-plus (top-parity 4) (added-plus (top-parity 0) none))))) .parities
+      let t : (s : ℕ) → AddedParity (bit 1 (a / 2 ^ s % 16)) (bit 1 (b / 2 ^ s % 16)) (bit 1 (bitXor a b / 2 ^ s % 16)) = λ s. bit-parity (top-read s) in
+      added-plus (t 20) (added-plus (t 16) (added-plus (t 12) (added-plus (t 8) (added-plus (t 4) (added-plus (t 0) no-parity))))) .parities
 
 -- ---- the table of columns
 

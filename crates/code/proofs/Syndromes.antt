@@ -15,7 +15,7 @@ use Rattle.binary.proofs.Linear.{Additive, rowSum-add, agree}
 use Rattle.code.specs.Characters.{fourth, fifth, sixth, hexacodeword}
 use Rattle.code.specs.Array.{column, columns, parity, topRow, projection}
 use Rattle.code.specs.Code.{words, same, isCodeword, syndromeBits, syndromeOf}
-use Rattle.code.proofs.Columns.{Added, added-xor, side-by-side, parity-read, topRow-read, projection-read, projection-w-read, projection-v-read}
+use Rattle.code.proofs.Columns.{Added, added-xor, side-by-side, parity-read, topRow-read, projection-read, times-w, times-v}
 
 module _ (a b : ℕ) where
   syndrome-added : Added 12 (syndromeOf a) (syndromeOf b) (syndromeOf (bitXor a b))
@@ -38,8 +38,8 @@ module _ (a b : ℕ) where
       (added-xor (p 0) (p 20)))
       (added-xor (topRow-read a b) (p 20)))
       (added-xor (x 8) (added-xor (added-xor (x 20) (x 16)) (x 12))))
-      (added-xor (x 4) (added-xor (added-xor (projection-v-read a b 20) (projection-w-read a b 16)) (x 12))))
-      (added-xor (x 0) (added-xor (added-xor (projection-w-read a b 20) (projection-v-read a b 16)) (x 12)))
+      (added-xor (x 4) (added-xor (added-xor (times-v (x 20)) (times-w (x 16))) (x 12))))
+      (added-xor (x 0) (added-xor (added-xor (times-w (x 20)) (times-v (x 16))) (x 12)))
 
 pub syndrome-add : Additive syndromeOf
 syndrome-add a b = syndrome-added a b .sum
