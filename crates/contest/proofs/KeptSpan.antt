@@ -1,11 +1,12 @@
 -- What is kept of the values of f from 0 up to n, seen in order, each at its number, are the two largest of that span.
-use mathlib.Core.Path.{_≡_, refl, ap}
+use mathlib.Core.Path.{_≡_, refl, ap, sym}
 use mathlib.Core.Logic.{_≢_, _⊎_, inl, inr}
 use mathlib.Core.List.{List, [], _∷_, _++_, List·Memᴰ, List·Memᴰ·head, List·Memᴰ·tail, List·Memᴰ·not-nil, List·Memᴰ·cases-cons}
 use Prim.Native.Nat.{ℕ, zero, suc, _≤_, _<_}
 use native.Mathlib.Omega.{arith}
 use native.Mathlib.Decide.{ℕ-discrete}
 use lib.IntN.{ℤ}
+use lib.ListN.{length, getD, drop}
 use lib.Signed.{_≤ℤ_}
 use Rattle.signed.proofs.Parts.{ints}
 use Rattle.contest.specs.Kept.{Seen, seen, values, lowest, Kept, run}
@@ -73,16 +74,14 @@ module _ (f : ℕ → ℤ) where
       of v (inl e) = record { at = n; below = omega arith; other = omega (arith, S .below); here = e }
       of v (inr m) = wider (S .of v m)
 
+  front : {n : ℕ} (s : Seen) {l : List Seen} → run f (suc n) ≡ s ∷ l → s ≡ seen (f n) n
+  front s e = ap (λ l. getD l 0 s) (sym e)
+
   splits : (n : ℕ) (a c : List Seen) {s : Seen} → run f n ≡ a ++ (s ∷ c) → Split n s (a ++ c)
-  splits zero [] c e = let z : _≡_ {A = ℕ} 0 1 = cc in absurd (omega arith)
-  splits zero (x ∷ a) c e = let z : _≡_ {A = ℕ} 0 1 = cc in absurd (omega arith)
-  splits (suc n) [] c {s} e =
-      let p : s ≡ seen (f n) n = cc in
-      let q : c ≡ run f n = cc in
-      rw (p, q) (newest n)
-  splits (suc n) (x ∷ a) c {s} e =
-      let p : x ≡ seen (f n) n = cc in
-      rw p (older (splits n a c (cc)))
+  splits zero [] c e = absurd (omega (arith, ap length e))
+  splits zero (x ∷ a) c e = absurd (omega (arith, ap length e))
+  splits (suc n) [] c {s} e = rw (front s e, ap (drop 1) (sym e)) (newest n)
+  splits (suc n) (x ∷ a) c e = rw (front x e) (older (splits n a c (ap (drop 1) e)))
 
   module _ (n : ℕ) (two : 2 ≤ n) (low : (k : ℕ) → k < n → lowest ≤ℤ f k) {t : Keeper} (K : Kept (run f n) t) where
     others : Split n (seen (t .best) (t .at)) (K .later ++ K .earlier)
