@@ -2,14 +2,14 @@
 """The table of 4,096 error patterns (rules 5.2 and 15.2): of the words with one syndrome the one with the least number of ones, and where
 several have that number, the least of them as a number.
 
-    tools/patterns.py rt           prints crates/hard/src/table.rt
-    tools/patterns.py antt         prints crates/patterns/proofs/Table.antt
-    tools/patterns.py rows_0       prints crates/hard/proofs/table/rows_0/Proof.antt, and so for rows_1, rows_2 and rows_3
+    tools/patterns.py rt           prints crates/lookup/src/entries.rt
+    tools/patterns.py antt         prints crates/table/proofs/Table.antt
+    tools/patterns.py rows_0       prints crates/lookup/proofs/entries/rows_0/Proof.antt, and so for rows_1, rows_2 and rows_3
     tools/patterns.py --write      writes all of them
     tools/patterns.py --check      compares all of them with what it would print; exit 1 where one differs
 
-All are printed in the layout of `rt fmt`. Nothing trusts this script: crates/patterns proves the rule of the list that it prints, and
-crates/hard that the source's rows are that list's.
+All are printed in the layout of `rt fmt`. Nothing trusts this script: crates/table proves the rule of the list that it prints, and
+crates/lookup that the source's rows are that list's.
 """
 
 import itertools
@@ -99,7 +99,7 @@ def source_rows(quarter):
 def rt(table):
     lines = [
         "// The error pattern of each syndrome, in rows of 32, and the row that a syndrome's stands in. Printed by tools/patterns.py.",
-        "ghost use Prim.Native.Nat.{_+_, _*_, _/_, _<_};",
+        "ghost use Prim.Native.Nat.{_+_, _*_, _/_, _%_, _<_};",
         "ghost use Rattle.patterns.specs.Patterns.{ArePatterns};",
         "",
     ]
@@ -110,8 +110,7 @@ def rt(table):
     lines += [
         f"// The row that the pattern of a syndrome stands in. The remainders tell the compiler that there are {QUARTERS} quarters of {ROWS} rows.",
         f"pub(crate) fn row(s: u32) -> [u32; {ROW}]",
-        f"    requires {{ ⌜ s < {SYNDROMES} ⌝ }}",
-        f"    ensures {{ λ r. ⌜ ArePatterns (s / {ROW} * {ROW}) {ROW} r ⌝ }}",
+        f"    ensures {{ λ r. ⌜ ArePatterns (s / {ROW} % {SYNDROMES // ROW} * {ROW}) {ROW} r ⌝ }}",
         "{",
         f"    let row = s / {ROW} % {ROWS};",
         f"    match s / {ROWS * ROW:_} % {QUARTERS} {{",
@@ -142,12 +141,12 @@ def rows_proof(quarter):
     first = quarter * ROWS * ROW
     name = f"rows_{quarter}"
     lines = [
-        f"-- `hard::table::{name}` meets its contract: each arm's row is that part of the table. Printed by tools/patterns.py.",
+        f"-- `lookup::entries::{name}` meets its contract: each arm's row is that part of the table. Printed by tools/patterns.py.",
         "-- Assumes nothing.",
-        "use Rattle.patterns.proofs.Table.{table}",
-        "use Rattle.hard.proofs.Rows.{picked, left-over}",
-        f"use Rattle.hard.proofs.table.{name}.Statement.{{statement}}",
-        f"use Rattle.hard.proofs.table.{name}.Tie as tie",
+        "use Rattle.table.proofs.Table.{table}",
+        "use Rattle.lookup.proofs.Rows.{picked, left-over}",
+        f"use Rattle.lookup.proofs.entries.{name}.Statement.{{statement}}",
+        f"use Rattle.lookup.proofs.entries.{name}.Tie as tie",
         "",
         f"pub {name.replace('_', '-')}-spec : {{M : Type 1}} → statement M",
         "unfolding table",
@@ -161,12 +160,12 @@ def rows_proof(quarter):
 
 
 FILES = {
-    "rt": ("crates/hard/src/table.rt", rt),
-    "antt": ("crates/patterns/proofs/Table.antt", antt),
+    "rt": ("crates/lookup/src/entries.rt", rt),
+    "antt": ("crates/table/proofs/Table.antt", antt),
 }
 for _quarter in range(QUARTERS):
     FILES[f"rows_{_quarter}"] = (
-        f"crates/hard/proofs/table/rows_{_quarter}/Proof.antt",
+        f"crates/lookup/proofs/entries/rows_{_quarter}/Proof.antt",
         lambda table, quarter=_quarter: rows_proof(quarter),
     )
 

@@ -20,6 +20,10 @@ positions = 24
 abbrev pub words : ℕ
 words = 16777216
 
+-- Rule 4.1: a syndrome is a number below this
+abbrev pub syndromes : ℕ
+syndromes = 4096
+
 -- whether two lists are equal
 abbrev pub same : List ℕ → List ℕ → Bool
 same [] [] = true

@@ -18,7 +18,7 @@ use Rattle.binary.proofs.Xor.{two-cases, bit-lt, xor-back}
 use Rattle.code.proofs.Syndromes.{syndrome-lt}
 use Rattle.binary.proofs.Places.{le-or-lt}
 use Rattle.patterns.proofs.Nearest.{error-syndrome, error-codeword}
-use Rattle.patterns.proofs.Fours.{rest, leads, four, one, leaders, four-found, four-lt, four-syndrome, six-lead, four-ones}
+use Rattle.table.proofs.Fours.{rest, leads, four, one, leaders, four-found, four-lt, four-syndrome, six-lead, four-ones}
 use Rattle.hard.specs.Candidates.{_∈_, Ascending, Candidate, Candidates, AtFour}
 use Rattle.hard.proofs.Ascending.{end-cases, ascending-end}
 

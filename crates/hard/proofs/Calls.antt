@@ -3,14 +3,16 @@
 use mathlib.Core.Path.{_≡_, refl, sym, ap, _∙_, subst}
 use mathlib.Core.Logic.{⊎-elim}
 use mathlib.Core.List.{List}
-use Prim.Native.Nat.{ℕ, _^_, _≤_, _<_}
+use Prim.Native.Nat.{ℕ, _%_, _≤_, _<_}
+use native.Mathlib.Nat.{mod-eq-of-lt}
 use native.Mathlib.Omega.{arith}
 use lib.Dec.{lit≤}
 use lib.Bits.{bitXor}
 use lib.ListN.{length, getD}
 use Rattle.binary.specs.Words.{ones}
 use Rattle.binary.proofs.Ones.{ones-beyond}
-use Rattle.code.specs.Code.{words, syndromeOf}
+use Rattle.binary.proofs.Places.{le-or-lt}
+use Rattle.code.specs.Code.{words, syndromes, syndromeOf}
 use Rattle.code.proofs.Syndromes.{syndrome-lt}
 use Rattle.golay.specs.declared.kinds.Refusal.{Refusal}
 use Rattle.golay.specs.declared.kinds.Syndrome.{Syndrome}
@@ -21,9 +23,8 @@ use Rattle.golay.specs.Answers.{accepted, refused, syndromeAnswer}
 use Rattle.golay.specs.Calls.{syndromeRule}
 use Rattle.golay.proofs.Rules.{syndrome-above, syndrome-within}
 use Rattle.patterns.specs.Patterns.{IsPattern}
-use Rattle.binary.proofs.Places.{le-or-lt}
-use Rattle.patterns.proofs.Table.{table}
-use Rattle.patterns.proofs.Patterns.{table-pattern}
+use Rattle.table.proofs.Table.{table}
+use Rattle.table.proofs.Entries.{table-pattern}
 use Rattle.hard.specs.Candidates.{Candidates, AtFour}
 use Rattle.hard.specs.Calls.{Corrects, WritesCandidates}
 use Rattle.hard.proofs.Rules.{correct-above, correct-four, correct-nearer, candidates-length, candidates-above, candidates-other, candidates-four}
@@ -53,7 +54,7 @@ module _ (word : ℕ) {answer : SyndromeAnswer} (rule : syndromeAnswer answer �
       (λ h. let z : _≡_ {A = ℕ} 0 1 = cc (a, syndrome-within word h) in let f : ⊥ = omega arith in absurd f)
       (le-or-lt words word)
 
-pub within-lt : {word s : ℕ} → Within word s → s < 2 ^ 12
+within-lt : {word s : ℕ} → Within word s → s < syndromes
 within-lt {word} w = rw (w .syndrome) (syndrome-lt word)
 
 -- the pattern of the word's syndrome, and its ones: golay counts those of 32 bits, and a pattern has none above its 24
@@ -62,10 +63,10 @@ pub record Found (word p n : ℕ) : Type 0 where
   pub rule : IsPattern (syndromeOf word) p
   pub count : n ≡ ones 24 p
 
-pub found : {word s p n : ℕ} → Within word s → IsPattern s p → n ≡ ones 32 p → Found word p n
+pub found : {word s p n : ℕ} → Within word s → IsPattern (s % syndromes) p → n ≡ ones 32 p → Found word p n
 found {p = p} w r e = record {
   low = w .low;
-  rule = subst (λ (s : ℕ). IsPattern s p) (w .syndrome) r;
+  rule = subst (λ (x : ℕ). IsPattern x p) (mod-eq-of-lt (within-lt w) ∙ w .syndrome) r;
   count = e ∙ ones-beyond 24 32 p (r .word) (lit≤ tt);
 }
 
@@ -102,12 +103,12 @@ module _ {word p n : ℕ} (f : Found word p n) where
     answered = rw (f .count) (sym (correct-nearer word p (f .low) (λ o. e (f .count ∙ o))));
   }
 
-pub at-four : {word s p n : ℕ} → Within word s → IsPattern s p → n ≡ ones 32 p → n ≡ 4 → AtFour word s
+pub at-four : {word s p n : ℕ} → Within word s → IsPattern (s % syndromes) p → n ≡ ones 32 p → n ≡ 4 → AtFour word s
 at-four {p = p} w r e four = record {
   within = w .low;
   syndrome = w .syndrome;
   pattern = p;
-  rule = r;
+  rule = subst (λ (x : ℕ). IsPattern x p) (mod-eq-of-lt (within-lt w)) r;
   four = sym (found w r e .count) ∙ four;
 }
 

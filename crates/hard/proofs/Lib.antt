@@ -1,4 +1,3 @@
-pub mod Rows
 pub mod Rules
 pub mod Calls
 pub mod Ascending

@@ -19,7 +19,7 @@ use Rattle.golay.specs.Calls.{wordAbove, wrongLength}
 use Rattle.patterns.specs.Patterns.{IsPattern}
 use Rattle.patterns.specs.Nearest.{Nearest}
 use Rattle.binary.proofs.Places.{le-or-lt}
-use Rattle.patterns.proofs.Patterns.{pattern-ones}
+use Rattle.table.proofs.Entries.{pattern-ones}
 use Rattle.patterns.proofs.Nearest.{pattern-nearest, only-within, only-nearest}
 use Rattle.hard.specs.Answers.{Correction}
 use Rattle.hard.specs.Candidates.{Candidate, Candidates}

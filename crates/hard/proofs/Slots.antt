@@ -12,10 +12,11 @@ use lib.Pow.{pow-lt}
 use lib.Bits.{bitXor, xor-lt}
 use lib.ListN.{getD, length, take, drop, set, length-set, take-append-drop, drop-of-length-le}
 use lib.Seq.{take-suc-set, take-set-le, drop-set-lt, drop-cons, getD-set-same}
+use Rattle.code.specs.Code.{syndromes}
 use Rattle.code.proofs.Syndromes.{syndromeRows}
 use Rattle.patterns.specs.Patterns.{IsPattern}
 use Rattle.patterns.proofs.Patterns.{pattern-unique}
-use Rattle.patterns.proofs.Fours.{rest, leads, four, one, pattern-of, row-lt}
+use Rattle.table.proofs.Fours.{rest, leads, four, one, pattern-of, row-lt}
 use Rattle.hard.specs.Candidates.{Candidates, AtFour}
 use Rattle.hard.proofs.Arrange.{put, isSet, arrange, put-length, at-four-lt, arrange-candidates}
 
@@ -106,7 +107,7 @@ module _ (word s : ℕ) (slots : List ℕ) (first end n : ℕ) (v : FilledFrom w
 -- ---- in the terms of the code: place n is worth 1 shifted by n, and f is the pattern that it reads
 
 module _ {word s : ℕ} {slots : List ℕ} {first end i f : ℕ} (a : AtFour word s) (v : FilledFrom word s slots first end i) (pos : 0 < i)
-    (r : IsPattern (bitXor s (getD syndromeRows (i - 1) 0)) f) where
+    (r : IsPattern (bitXor s (getD syndromeRows (i - 1) 0) % syndromes) f) where
   abbrev n : ℕ
   n = i - 1
 
@@ -122,8 +123,11 @@ module _ {word s : ℕ} {slots : List ℕ} {first end i f : ℕ} (a : AtFour wor
   place-worth : place ≡ 2 ^ n
   place-worth = ap (λ (x : ℕ). x % 2 ^ 32) (one-mul (2 ^ n)) ∙ mod-eq-of-lt (pow-lt {j = 32} (omega (arith, place-lt)))
 
+  left-lt : bitXor s (getD syndromeRows n 0) < syndromes
+  left-lt = xor-lt 12 s (getD syndromeRows n 0) (at-four-lt word s a) (row-lt n place-lt)
+
   rest-read : f ≡ rest s n
-  rest-read = pattern-unique r (pattern-of (bitXor s (getD syndromeRows n 0)) (xor-lt 12 s (getD syndromeRows n 0) (at-four-lt word s a) (row-lt n place-lt)))
+  rest-read = pattern-unique (rw (mod-eq-of-lt left-lt) at r) (pattern-of (bitXor s (getD syndromeRows n 0)) left-lt)
 
   leads-read : f < place → T (leads s n)
   leads-read l = lt→ltb (rest s n) (2 ^ n) (rw (← rest-read, ← place-worth) l)

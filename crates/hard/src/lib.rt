@@ -1,15 +1,12 @@
 // Hard correction (rules 5.5 and 5.6) and the candidate call (5.7 and 5.8), both by the table of error patterns. Each call answers for every
 // input, and its promise decides the whole answer and what the slots hold.
 ghost use mathlib.Core.Path.{_≡_};
-ghost use Prim.Native.Nat.{_<_};
 ghost use lib.ListN.{length};
-ghost use Rattle.patterns.specs.Patterns.{IsPattern};
 ghost use Rattle.hard.specs.Answers.{correctAnswer, candidatesAnswer};
 ghost use Rattle.hard.specs.Calls.{Corrects, WritesCandidates};
 ghost use Rattle.hard.specs.Candidates.{Candidates, AtFour};
 
 pub mod kinds;
-mod table;
 
 use golay::kinds::Codeword;
 use golay::kinds::Refusal;
@@ -18,26 +15,6 @@ use kinds::CandidatesAnswer;
 use kinds::CorrectAnswer;
 use rows::SYNDROMES;
 
-// The pattern of a syndrome. Where the compiler can tell which entries of a constant are read, the constant becomes a table in the program's
-// text; an index that the program computes makes it write the constant to the stack at each use. So a loop, which the compiler lays out turn
-// by turn, passes all entries of the row and keeps the one.
-fn pattern(s: u32) -> u32
-    requires { ⌜ s < 4096 ⌝ }
-    ensures { λ r. ⌜ IsPattern s r ⌝ }
-{
-    let row = table::row(s);
-    let at = (s % 32) as usize;
-    let mut found: u32 = 0;
-    let mut i: usize = 0;
-    while i < 32 {
-        if i == at {
-            found = row[i];
-        }
-        i += 1;
-    }
-    found
-}
-
 // The codeword nearest to a word and its distance, 0 to 3. Refuses 4, then 7.
 pub fn correct(word: u32) -> CorrectAnswer
     ensures { λ r. ⌜ Corrects word (correctAnswer r) ⌝ }
@@ -45,7 +22,7 @@ pub fn correct(word: u32) -> CorrectAnswer
     match golay::syndrome(word) {
         SyndromeAnswer::Refused(reason) => CorrectAnswer::Refused(reason),
         SyndromeAnswer::Accepted(s) => {
-            let error = pattern(s.0);
+            let error = lookup::pattern(s.0);
             let distance = golay::ones(error);
             if distance == 4 {
                 return CorrectAnswer::Refused(Refusal::DistanceFour);
@@ -69,7 +46,7 @@ fn fill(word: u32, s: u32, slots: &mut [u32])
     while i > 0 {
         i -= 1;
         let place: u32 = 1 << i;
-        let rest = pattern(s ^ SYNDROMES[i as usize]);
+        let rest = lookup::pattern(s ^ SYNDROMES[i as usize]);
         if rest < place {
             let candidate = word ^ (place + rest);
             if (word >> i) % 2 == 1 {
@@ -93,7 +70,7 @@ pub fn candidates(word: u32, slots: &mut [u32]) -> CandidatesAnswer
     match golay::syndrome(word) {
         SyndromeAnswer::Refused(reason) => CandidatesAnswer::Refused(reason),
         SyndromeAnswer::Accepted(s) => {
-            if golay::ones(pattern(s.0)) != 4 {
+            if golay::ones(lookup::pattern(s.0)) != 4 {
                 return CandidatesAnswer::Refused(Refusal::NotDistanceFour);
             }
             fill(word, s.0, slots);

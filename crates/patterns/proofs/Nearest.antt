@@ -8,12 +8,12 @@ use lib.Dec.{T}
 use lib.Bits.{bitXor, xor-zero-r, xor-self, xor-lt}
 use Rattle.binary.specs.Words.{ones, distance}
 use Rattle.binary.proofs.Xor.{xor-back, xor-zero-eq}
+use Rattle.binary.proofs.Places.{ones-xor}
 use Rattle.code.specs.Code.{words, isCodeword, syndromeOf}
 use Rattle.code.proofs.Syndromes.{syndrome-add, codeword-zero, zero-codeword}
 use Rattle.algebra.proofs.Distances.{codeword-ones}
 use Rattle.patterns.specs.Patterns.{IsPattern}
 use Rattle.patterns.specs.Nearest.{Nearest}
-use Rattle.binary.proofs.Places.{ones-xor}
 
 light-codeword : (c : ℕ) → c < words → T (isCodeword c) → ones 24 c < 8 → c ≡ 0
 light-codeword zero h t l = refl

@@ -1,1 +1,1 @@
-// The table of error patterns: its rule stands in specs/, the table and its laws in proofs/. It has no entry point.
+// The rule of the error patterns and the nearest codeword: definitions in specs/, laws in proofs/. It has no entry point.

@@ -9,8 +9,8 @@ use Rattle.binary.specs.Words.{ones}
 use Rattle.code.specs.Code.{syndromeOf}
 use Rattle.code.proofs.Syndromes.{syndrome-lt}
 use Rattle.golay.specs.Answers.{Answer, accepted}
-use Rattle.patterns.proofs.Table.{table}
-use Rattle.patterns.proofs.Patterns.{table-pattern}
+use Rattle.table.proofs.Table.{table}
+use Rattle.table.proofs.Entries.{table-pattern}
 use Rattle.patterns.proofs.Nearest.{pattern-itself}
 use Rattle.hard.specs.Calls.{correctRule, Corrects}
 use Rattle.reading.specs.Cases.{oneAgainst}

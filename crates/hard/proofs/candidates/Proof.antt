@@ -3,7 +3,7 @@
 use native.Mathlib.Omega.{arith}
 use denote.Ref.{now}
 use borrow.Author.Needs.{needs}
-use Rattle.hard.proofs.Calls.{syndrome-accepted, syndrome-refused, within-lt, found, at-four, writes-length, writes-above, writes-other, writes-four}
+use Rattle.hard.proofs.Calls.{syndrome-accepted, syndrome-refused, found, at-four, writes-length, writes-above, writes-other, writes-four}
 use Rattle.hard.proofs.candidates.Statement.{statement}
 use Rattle.hard.proofs.candidates.Tie as tie
 
@@ -20,11 +20,7 @@ enum-known-s : tie.Need-enum-known-s
 enum-known-s c = search needs
 
 pattern-requires : tie.Need-pattern-requires
-pattern-requires c κs =
-    let matched = c .before in
-    let called = matched .before .before in
-    let start = called .before .before .before in
-    within-lt (syndrome-accepted (start .args .word) (called .syndrome .ensures) (matched .s .given .1))
+pattern-requires c κs = search needs
 
 ones-requires : tie.Need-ones-requires
 ones-requires c κs = search needs

@@ -2,7 +2,7 @@
 -- Assumes nothing.
 use native.Mathlib.Omega.{arith}
 use borrow.Author.Needs.{needs}
-use Rattle.hard.proofs.Calls.{syndrome-accepted, syndrome-refused, within-lt, found, corrects-above, corrects-four, corrects-nearer}
+use Rattle.hard.proofs.Calls.{syndrome-accepted, syndrome-refused, found, corrects-above, corrects-four, corrects-nearer}
 use Rattle.hard.proofs.correct.Statement.{statement}
 use Rattle.hard.proofs.correct.Tie as tie
 
@@ -16,10 +16,7 @@ enum-known-s : tie.Need-enum-known-s
 enum-known-s c = search needs
 
 pattern-requires : tie.Need-pattern-requires
-pattern-requires c κs =
-    let matched = c .before in
-    let called = matched .before .before in
-    within-lt (syndrome-accepted (called .before .args .word) (called .syndrome .ensures) (matched .s .given .1))
+pattern-requires c κs = search needs
 
 ones-requires : tie.Need-ones-requires
 ones-requires c κs = search needs

@@ -1,13 +1,9 @@
 -- `hard::fill` meets its contract: each turn places what its place leads to, and after the last the slots hold the whole arrangement.
 -- Assumes nothing.
 use mathlib.Core.Path.{_∙_, sym}
-use Prim.Native.Nat.{_-_}
 use native.Mathlib.Omega.{arith}
-use lib.Bits.{xor-lt}
 use denote.Ref.{now}
 use borrow.Author.Needs.{needs}
-use Rattle.patterns.proofs.Fours.{row-lt}
-use Rattle.hard.proofs.Arrange.{at-four-lt}
 use Rattle.hard.proofs.Slots.{FilledFrom, begun, done, turn-fits, turn-room, turn-skip, turn-front, turn-back}
 use Rattle.hard.proofs.fill.Statement.{statement}
 use Rattle.hard.proofs.fill.Tie as tie
@@ -39,11 +35,7 @@ array-read-pattern : tie.Need-array-read-pattern Inv-loop μ-loop
 array-read-pattern c = search needs
 
 pattern-requires : tie.Need-pattern-requires Inv-loop μ-loop
-pattern-requires c κs =
-    let start = c .before .before .before in
-    let s = start .args .s in
-    let n = c .before .loop .i - 1 in
-    xor-lt 12 s _ (at-four-lt (start .args .word) s (start .pre .0)) (row-lt n (search needs))
+pattern-requires c κs = search needs
 
 add-candidate : tie.Need-add-candidate Inv-loop μ-loop
 add-candidate c =

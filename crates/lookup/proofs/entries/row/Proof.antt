@@ -1,4 +1,4 @@
--- `hard::table::row` meets its contract: a quarter's rows start at the quarter's first syndrome.
+-- `lookup::entries::row` meets its contract: a quarter's rows start at the quarter's first syndrome.
 -- Assumes nothing.
 use mathlib.Core.Path.{_≡_, subst}
 use Prim.Native.Nat.{ℕ, _+_, _*_, _/_, _%_}
@@ -6,10 +6,10 @@ use native.Mathlib.Omega.{arith}
 use mathlib.Core.List.{List}
 use borrow.Author.Needs.{needs}
 use Rattle.patterns.specs.Patterns.{ArePatterns}
-use Rattle.hard.proofs.table.row.Statement.{statement}
-use Rattle.hard.proofs.table.row.Tie as tie
+use Rattle.lookup.proofs.entries.row.Statement.{statement}
+use Rattle.lookup.proofs.entries.row.Tie as tie
 
-whole : (q s : ℕ) {list : List ℕ} → s / 1024 ≡ q → ArePatterns (q * 1024 + s / 32 % 32 * 32) 32 list → ArePatterns (s / 32 * 32) 32 list
+whole : (q s : ℕ) {list : List ℕ} → s / 1024 % 4 ≡ q → ArePatterns (q * 1024 + s / 32 % 32 * 32) 32 list → ArePatterns (s / 32 % 128 * 32) 32 list
 whole q s {list} e = subst (λ (first : ℕ). ArePatterns first 32 list) (omega arith)
 
 rows-0-requires : tie.Need-rows-0-requires

@@ -13,14 +13,15 @@ use lib.ListN.{getD}
 use Rattle.binary.specs.Words.{ones}
 use Rattle.binary.proofs.Tests.{and-left, and-right, all, below}
 use Rattle.binary.proofs.Xor.{xor-back}
+use Rattle.binary.proofs.Places.{ones-positive, Top, top, ones-top}
 use Rattle.code.specs.Code.{words, syndromeOf}
 use Rattle.code.proofs.Syndromes.{syndrome-add, syndrome-lt, syndromeRows}
 use Rattle.patterns.specs.Patterns.{IsPattern}
-use Rattle.patterns.proofs.Table.{table}
-use Rattle.patterns.proofs.Lookup.{Tree, build, find, find-build}
-use Rattle.binary.proofs.Places.{ones-positive, Top, top, ones-top}
-use Rattle.patterns.proofs.Patterns.{table-pattern, pattern-unique}
+use Rattle.patterns.proofs.Patterns.{pattern-unique}
 use Rattle.patterns.proofs.Nearest.{pattern-itself}
+use Rattle.table.proofs.Table.{table}
+use Rattle.table.proofs.Lookup.{Tree, build, find, find-build}
+use Rattle.table.proofs.Entries.{table-pattern}
 
 -- the table, as the test reads it
 tree : Tree

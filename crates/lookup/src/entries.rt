@@ -1,5 +1,5 @@
 // The error pattern of each syndrome, in rows of 32, and the row that a syndrome's stands in. Printed by tools/patterns.py.
-ghost use Prim.Native.Nat.{_+_, _*_, _/_, _<_};
+ghost use Prim.Native.Nat.{_+_, _*_, _/_, _%_, _<_};
 ghost use Rattle.patterns.specs.Patterns.{ArePatterns};
 
 const ROW_00: [u32; 32] = [
@@ -4648,8 +4648,7 @@ fn rows_3(row: u32) -> [u32; 32]
 
 // The row that the pattern of a syndrome stands in. The remainders tell the compiler that there are 4 quarters of 32 rows.
 pub(crate) fn row(s: u32) -> [u32; 32]
-    requires { ⌜ s < 4096 ⌝ }
-    ensures { λ r. ⌜ ArePatterns (s / 32 * 32) 32 r ⌝ }
+    ensures { λ r. ⌜ ArePatterns (s / 32 % 128 * 32) 32 r ⌝ }
 {
     let row = s / 32 % 32;
     match s / 1_024 % 4 {

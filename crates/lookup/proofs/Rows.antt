@@ -9,8 +9,9 @@ use lib.Dec.{T, leb, leb→le}
 use lib.ListN.{take, drop}
 use Rattle.patterns.specs.Patterns.{ArePatterns}
 use Rattle.binary.proofs.Places.{le-or-lt}
-use Rattle.patterns.proofs.Table.{table}
-use Rattle.patterns.proofs.Patterns.{table-patterns, part-patterns}
+use Rattle.table.proofs.Table.{table}
+use Rattle.patterns.proofs.Patterns.{part-patterns}
+use Rattle.table.proofs.Entries.{table-patterns}
 
 -- row k of those from the syndrome `first` on, where the row's number is k
 pub picked :

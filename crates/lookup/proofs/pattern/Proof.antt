@@ -1,15 +1,21 @@
--- `hard::pattern` meets its contract. The invariant: once the loop has passed the entry, it holds it.
+-- `lookup::pattern` meets its contract. The invariant: once the loop has passed the entry, it holds it.
 -- Assumes nothing.
-use mathlib.Core.Path.{_≡_, _∙_, sym, ap, subst}
+use mathlib.Core.Path.{_≡_, _∙_, sym, ap, subst₂}
 use mathlib.Core.Logic.{⊎-elim}
-use Prim.Native.Nat.{ℕ, _-_, _%_, _≤_, _<_}
-use native.Mathlib.Nat.{div-add-mod'}
+use Prim.Native.Nat.{ℕ, _+_, _-_, _*_, _/_, _%_, _≤_, _<_}
+use native.Mathlib.Nat.{mod-lt}
 use native.Mathlib.Omega.{arith}
+use lib.Dec.{lit<}
 use lib.ListN.{getD}
 use borrow.Author.Needs.{needs}
+use Rattle.code.specs.Code.{syndromes}
 use Rattle.patterns.specs.Patterns.{IsPattern}
-use Rattle.hard.proofs.pattern.Statement.{statement}
-use Rattle.hard.proofs.pattern.Tie as tie
+use Rattle.lookup.proofs.pattern.Statement.{statement}
+use Rattle.lookup.proofs.pattern.Tie as tie
+
+-- the entry's place in its row, and its row's in the table
+entry-syndrome : (s : ℕ) → s / 32 % 128 * 32 + s % 32 ≡ s % syndromes
+entry-syndrome s = omega arith
 
 abbrev Inv-loop : tie.InvT-loop
 Inv-loop s row at found₀ i₀ found i = (i ≤ 32) × (at < i → found ≡ getD row at 0)
@@ -46,12 +52,11 @@ loop-again c =
 
 returns : tie.Need-returns Inv-loop μ-loop
 returns c =
-    let start = c .before .before .before in
-    let s = start .args .s in
+    let called = c .before .before in
+    let s = called .before .args .s in
     let l = c .before .loop in
-    let e : l .found ≡ getD (c .before .before .row .result) (s % 32) 0 = l .inv .1 (omega arith) in
-    subst (λ (x : ℕ). IsPattern s x) (sym e)
-    (subst (λ (n : ℕ). IsPattern n (getD (c .before .before .row .result) (s % 32) 0)) (div-add-mod' s 32) (c .before .before .row .ensures .each (s % 32) (omega arith)))
+    let e : l .found ≡ getD (called .row .result) (s % 32) 0 = l .inv .1 (omega arith) in
+    subst₂ IsPattern (entry-syndrome s) (sym e) (called .row .ensures .each (s % 32) (mod-lt s (lit< tt)))
 
 pub pattern-spec : {M : Type 1} → statement M
 pattern-spec =
