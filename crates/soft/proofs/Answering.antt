@@ -10,6 +10,7 @@ use Rattle.signed.proofs.Bounds.{quot-double}
 use Rattle.contest.specs.Readings.{Reading, scores}
 use Rattle.contest.specs.Largest.{Best}
 use Rattle.contest.specs.Answers.{accepted, tied}
+use Rattle.contest.specs.declared.Keeper.{Keeper}
 use Rattle.contest.proofs.Span.{behind}
 use Rattle.contest.proofs.Decided.{settled, settled-tied}
 use Rattle.contest.proofs.Reserve.{score-size}
@@ -24,9 +25,9 @@ use Rattle.golay.specs.Calls.{encodeRule}
 use Rattle.golay.proofs.Rules.{encode-within}
 use Rattle.classes.specs.Codewords.{word}
 use Rattle.classes.proofs.Codewords.{family}
+use Rattle.details.specs.Details.{Tops}
 use Rattle.soft.specs.Calls.{values, Decides}
-use Rattle.soft.specs.Details.{Tops, Wide}
-use Rattle.contest.specs.declared.Keeper.{Keeper}
+use Rattle.soft.specs.Keepers.{Wide}
 
 -- ---- the codeword of the winner's message
 

@@ -1,8 +1,3 @@
-pub mod Filling
-pub mod Summing
-pub mod Sizing
-pub mod Scoring
-pub mod Keeping
 pub mod Answering
 pub mod Rules
 pub mod Decided

@@ -9,20 +9,17 @@ ghost use Rattle.signed.specs.Within.{Within};
 ghost use Rattle.contest.specs.Readings.{Reading, scores};
 ghost use Rattle.code.specs.Code.{messages, positions};
 ghost use Rattle.classes.specs.Codewords.{word};
+ghost use Rattle.columns.specs.Columns.{Sums, SumsWithin};
+ghost use Rattle.details.specs.Details.{Tops};
 ghost use Rattle.soft.specs.Answers.{softAnswer, classFigureAnswer};
 ghost use Rattle.soft.specs.Calls.{Decides, SoftRule, ClassFigureRule};
-ghost use Rattle.soft.specs.Columns.{Sums, SumsWithin};
-ghost use Rattle.soft.specs.Details.{Tops, Wide};
+ghost use Rattle.soft.specs.Keepers.{Wide};
 
-mod columns;
-mod details;
-mod figures;
 pub mod kinds;
 
 use columns::column_sums;
 use contest::Keeper;
 use details::class_best;
-use figures::codes;
 use figures::largest_figures;
 use golay::POSITIONS;
 use golay::kinds::EncodeAnswer;
@@ -39,8 +36,7 @@ fn two_largest(sums: &[i64; 48]) -> Keeper
     requires { ⌜ SumsWithin (now sums) ⌝ }
     ensures { λ r. ⌜ ((xs : List ℤ) → length xs ≡ positions → Sums xs (now (sums .entry)) → Tops (scores word xs) 0 messages r) ⌝ }
 {
-    let codes = codes(sums);
-    let figures = largest_figures(&codes);
+    let figures = largest_figures(sums);
     let winner = figures.at;
     let next = figures.second;
     let own = class_best(sums, winner);

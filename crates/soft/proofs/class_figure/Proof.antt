@@ -9,6 +9,7 @@ use mir.Val.{SFits}
 use mir.Facts.{toZ-ofZ}
 use Rattle.golay.specs.Answers.{accepted}
 use Rattle.reading.specs.Checks.{mostNegative}
+use Rattle.details.proofs.Sizing.{class-tops}
 use Rattle.soft.proofs.Rules.{figure-length, figure-negative, figure-above, figure-within}
 use Rattle.soft.proofs.class_figure.Statement.{statement}
 use Rattle.soft.proofs.class_figure.Tie as tie
@@ -50,7 +51,7 @@ returns-4 : tie.Need-returns-4
 returns-4 c =
     let tested = c .before .before .before .before in
     let a = tested .before .before .before .before .args in
-    let A = c .before .class-best .ensures (a .reading .now) (long (tested .before)) (c .before .before .before .column-sums .ensures) in
+    let A = class-tops (long (tested .before)) (c .before .before .before .column-sums .ensures) (a .class) (tested .if3 .left) (c .before .class-best .ensures) in
     figure-within (a .reading .now) (a .class) (long (tested .before)) (usable (tested .before)) (tested .if3 .left)
     (record { message = _; largest = A .largest; is = ap accepted (toZ-ofZ (best-fits c) ∙ A .best) })
 

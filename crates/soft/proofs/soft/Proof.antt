@@ -5,7 +5,7 @@ use Rattle.contest.specs.Readings.{Reading, scores}
 use Rattle.reading.proofs.Checking.{checked-reading}
 use Rattle.code.specs.Code.{messages}
 use Rattle.classes.specs.Codewords.{word}
-use Rattle.soft.specs.Details.{Tops}
+use Rattle.details.specs.Details.{Tops}
 use Rattle.soft.proofs.Answering.{wide}
 use Rattle.soft.proofs.Rules.{soft-length, soft-negative, soft-decides}
 use Rattle.soft.proofs.soft.Statement.{statement}

@@ -1,6 +1,6 @@
 -- `soft::two_largest` meets its contract: the two largest figures, and the winning class's own two, decide.
 use borrow.Author.Needs.{needs}
-use lib.Dec.{lit<, lit≤}
+use lib.Dec.{lit<}
 use mir.Syntax.{w64}
 use mir.Val.{SFits}
 use mir.Facts.{toZ-ofZ}
@@ -9,25 +9,22 @@ use Rattle.signed.proofs.Locals.{lt-taken, lt-left}
 use Rattle.contest.specs.Largest.{Best}
 use Rattle.contest.proofs.Runs.{runs-next, runs-own}
 use Rattle.classes.specs.Classes.{classes}
-use Rattle.soft.specs.Figures.{figureAt}
-use Rattle.soft.proofs.Scoring.{figure-within, class-figure}
-use Rattle.soft.proofs.Keeping.{two-kept}
+use Rattle.figures.specs.Figures.{reachedFrom}
+use Rattle.figures.proofs.Reaching.{largest-two, class-largest}
+use Rattle.details.proofs.Sizing.{class-tops}
 use Rattle.soft.proofs.two_largest.Statement.{statement}
 use Rattle.soft.proofs.two_largest.Tie as tie
 
 -- the two largest figures
-figures : (c : tie.After-largest-figures)
-    → Best (figureAt (c .before .before .codes .result)) 0 classes (c .largest-figures .result .best) (c .largest-figures .result .second) (c .largest-figures .result .at)
-figures c = two-kept (lit≤ tt) (figure-within _ (c .before .before .codes .ensures .within)) (c .largest-figures .ensures)
-
-codes-requires : tie.Need-codes-requires
-codes-requires c κs = search needs
+found : (c : tie.After-largest-figures)
+    → Best (reachedFrom (c .before .args .sums .now)) 0 classes (c .largest-figures .result .best) (c .largest-figures .result .second) (c .largest-figures .result .at)
+found c = largest-two (c .before .args .sums .now) (c .before .pre) (c .largest-figures .ensures)
 
 largest-figures-requires : tie.Need-largest-figures-requires
-largest-figures-requires c κs = c .before .codes .ensures .within
+largest-figures-requires c κs = search needs
 
 class-best-requires : tie.Need-class-best-requires
-class-best-requires c κs = (figures (c .before) .largest .below, c .before .before .before .before .pre)
+class-best-requires c κs = (found (c .before) .largest .below, c .before .before .pre)
 
 record Fit (c : tie.After-struct-told2) : Type 0 where
   best : SFits w64 (c .before .class-best .result .best)
@@ -40,19 +37,19 @@ fit c = record { best = search needs; second = search needs; next = search needs
 returns : tie.Need-returns
 returns c xs e S =
     let own = c .before .before .before in
-    let found = own .before .before in
+    let f = found (own .before .before) in
     let g = fit (c .before .before) in
     let h = lt-taken (g .second) (g .next) (c .before .if1 .taken) in
     rw (toZ-ofZ (g .best), toZ-ofZ (g .next))
-    (runs-next (lit< tt) (λ k b. class-figure S (found .before .before .codes .ensures) k e b) (figures found) (own .class-best .ensures xs e S) (omega ints))
+    (runs-next (lit< tt) (class-largest S e) f (class-tops e S _ (f .largest .below) (own .class-best .ensures)) (omega ints))
 
 returns-2 : tie.Need-returns-2
 returns-2 c xs e S =
     let own = c .before .before in
-    let found = own .before .before in
+    let f = found (own .before .before) in
     let g = fit (c .before) in
-    runs-own (lit< tt) (λ k b. class-figure S (found .before .before .codes .ensures) k e b) (figures found) (own .class-best .ensures xs e S)
+    runs-own (lit< tt) (class-largest S e) f (class-tops e S _ (f .largest .below) (own .class-best .ensures))
     (lt-left (g .second) (g .next) (c .if1 .left))
 
 pub two-largest-spec : {M : Type 1} → statement M
-two-largest-spec = tie.close (tie.spec codes-requires largest-figures-requires class-best-requires returns returns-2)
+two-largest-spec = tie.close (tie.spec largest-figures-requires class-best-requires returns returns-2)

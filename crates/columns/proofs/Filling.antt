@@ -1,0 +1,36 @@
+-- Filling a list's places in order: one more, four more, eight more.
+use mathlib.Core.Path.{_≡_, refl, _∙_}
+use mathlib.Core.List.{List}
+use Prim.Native.Nat.{ℕ, _+_, _<_}
+use native.Mathlib.Omega.{arith}
+use native.Mathlib.Decide.{ℕ-discrete}
+use lib.ListN.{getD, set, length-set}
+use lib.Seq.{getD-set-same, getD-set-other}
+use Rattle.columns.specs.Places.{Filled}
+
+module _ {A : Type 0} (default : A) (Right : ℕ → A → Type 0) where
+  pub put : (n m : ℕ) {l : ℕ} {s : List A} {z : A} → m ≡ n + 1 → n < l → Right n z → Filled default Right n l s → Filled default Right m l (set s n z)
+  put n m {l} {s} {z} e h new F = record { long = length-set s n z ∙ F .long; places = λ j b. go j b (ℕ-discrete j n) }
+    where
+      go : (j : ℕ) → j < m → Dec (j ≡ n) → Right j (getD (set s n z) j default)
+      go j b (yes g) = rw (g, getD-set-same s n z default (omega (arith, F .long))) new
+      go j b (no d) = rw (getD-set-other s n j z default d) (F .places j (omega arith))
+
+  pub put-four : (n : ℕ) {l : ℕ} {s : List A} {z0 z1 z2 z3 : A} → n + 3 < l
+      → Right n z0 → Right (n + 1) z1 → Right (n + 2) z2 → Right (n + 3) z3 → Filled default Right n l s
+      → Filled default Right (n + 4) l (set (set (set (set s n z0) (n + 1) z1) (n + 2) z2) (n + 3) z3)
+  put-four n h r0 r1 r2 r3 F =
+      put (n + 3) (n + 4) (omega arith) (omega arith) r3
+      (put (n + 2) (n + 3) (omega arith) (omega arith) r2
+      (put (n + 1) (n + 2) (omega arith) (omega arith) r1 (put n (n + 1) refl (omega arith) r0 F)))
+
+  pub put-eight : (n : ℕ) {l : ℕ} {s : List A} {z0 z1 z2 z3 z4 z5 z6 z7 : A} → n + 7 < l
+      → Right n z0 → Right (n + 1) z1 → Right (n + 2) z2 → Right (n + 3) z3
+      → Right (n + 4) z4 → Right (n + 5) z5 → Right (n + 6) z6 → Right (n + 7) z7 → Filled default Right n l s
+      → Filled default Right (n + 8) l
+      (set (set (set (set (set (set (set (set s n z0) (n + 1) z1) (n + 2) z2) (n + 3) z3) (n + 4) z4) (n + 5) z5) (n + 6) z6) (n + 7) z7)
+  put-eight n h r0 r1 r2 r3 r4 r5 r6 r7 F =
+      put (n + 7) (n + 8) (omega arith) (omega arith) r7
+      (put (n + 6) (n + 7) (omega arith) (omega arith) r6
+      (put (n + 5) (n + 6) (omega arith) (omega arith) r5
+      (put (n + 4) (n + 5) (omega arith) (omega arith) r4 (put-four n (omega arith) r0 r1 r2 r3 F))))

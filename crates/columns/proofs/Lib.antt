@@ -1,0 +1,4 @@
+pub mod Filling
+pub mod Summing
+pub mod Picking
+pub mod Decided

@@ -1,0 +1,4 @@
+pub mod Scoring
+pub mod Keeping
+pub mod Reaching
+pub mod Decided
