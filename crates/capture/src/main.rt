@@ -5,14 +5,12 @@ ghost use Prim.Native.Nat.{_+_, _%_, _≤_};
 ghost use lib.ListN.{length};
 ghost use Rattle.records.specs.Records.{recordLength};
 ghost use Rattle.lines.specs.Lines.{longest};
-ghost use Rattle.capture.specs.Runs.{Room, wholes};
-
-mod run;
-
+ghost use Rattle.run.specs.Pieces.{wholes};
+ghost use Rattle.run.specs.Runs.{Room};
 use libc::STDERR_FILENO;
 use libc::STDIN_FILENO;
 use libc::STDOUT_FILENO;
-use run::Turned;
+use run::kinds::Turned;
 
 // No offset comes near the end of 64 bits; this says so to the proof.
 const FARTHEST: u64 = 0xFFFF_FFFF_FFFE_0000;

@@ -7,6 +7,9 @@ ghost use Rattle.io.specs.Counts.{Counts};
 ghost use Rattle.lines.specs.Lines.{decimal, header, lineOf, lineOfTwo, acceptedLine, refusedLine, stoppedLine};
 ghost use Rattle.lines.specs.Buffers.{Puts, Writes};
 
+// The most bytes that a line takes.
+pub const LONGEST: usize = 36;
+
 // How many bytes a buffer of a length has from a place on.
 fn room(length: usize, at: usize) -> usize
     ensures { λ r. ⌜ r ≡ length - at ⌝ }

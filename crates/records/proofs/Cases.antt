@@ -1,5 +1,5 @@
 -- The worked capture gives its four lines, byte for byte, over any decoder that answers its two readings so; `capture-decoded` of the room
--- capture has that every decoder does.
+-- run has that every decoder does.
 -- Assumes nothing.
 use mathlib.Core.Path.{_≡_}
 use mathlib.Core.List.{List}

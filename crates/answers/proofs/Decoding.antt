@@ -1,0 +1,49 @@
+-- There is a decoder, and one only; and a line tells its answer, whichever answer the soft decoder gave.
+-- Assumes nothing.
+use mathlib.Core.Path.{_≡_, refl, sym, ap, _∙_}
+use mathlib.Core.List.{List}
+use Prim.Native.Nat.{ℕ, _≤_}
+use lib.IntN.{ℤ}
+use lib.ListN.{length}
+use Rattle.golay.specs.Answers.{Answer}
+use Rattle.soft.specs.declared.kinds.Soft.{Soft}
+use Rattle.soft.specs.Calls.{SoftRule}
+use Rattle.soft.proofs.Decided.{soft-once, soft-exists}
+use Rattle.lines.specs.Lines.{answerLine, longest}
+use Rattle.lines.specs.Buffers.{Writes}
+use Rattle.lines.proofs.Decided.{writes-decided}
+use Rattle.answers.specs.Decoding.{messageAndReserve, Decoder, Tells}
+
+pub a-decoder : (decode : List ℤ → Answer (ℕ × ℕ)) × Decoder decode
+a-decoder = (
+  λ xs. messageAndReserve (soft-exists xs .0),
+  record { soft = λ xs. soft-exists xs .0; allowed = λ xs. soft-exists xs .1; told = λ xs. refl },
+)
+
+module _ (decode : List ℤ → Answer (ℕ × ℕ)) (D : Decoder decode) where
+  pub tells : (xs : List ℤ) (a : Answer Soft) → SoftRule xs a → decode xs ≡ messageAndReserve a
+  tells xs a r = D .told xs ∙ ap messageAndReserve (soft-once xs (D .soft xs) a (D .allowed xs) r)
+
+pub one-decoder : (f g : List ℤ → Answer (ℕ × ℕ)) → Decoder f → Decoder g → (xs : List ℤ) → f xs ≡ g xs
+one-decoder f g F G xs = tells f F xs (G .soft xs) (G .allowed xs) ∙ sym (G .told xs)
+
+-- the line of an answer that the soft decoder's promise allows
+pub answer-told :
+    (xs : List ℤ) (a : Answer Soft) {text before after : List ℕ} {at next : ℕ}
+    → SoftRule xs a
+    → text ≡ answerLine (messageAndReserve a)
+    → length text ≤ longest
+    → Writes text before at after next
+    → Tells xs before at after next
+answer-told xs a {text} r e short w = record { line = λ decode D. rw (line decode D) at w; short = λ decode D. rw (line decode D) at short }
+  where
+    line : (decode : List ℤ → Answer (ℕ × ℕ)) → Decoder decode → text ≡ answerLine (decode xs)
+    line decode D = e ∙ ap answerLine (sym (tells decode D xs a r))
+
+-- two outcomes that the promise of an answer's line allows are equal: what the buffer holds afterwards, and the place
+pub tells-decided :
+    {xs : List ℤ} {before after later : List ℕ} {at next other : ℕ}
+    → Tells xs before at after next
+    → Tells xs before at later other
+    → (after ≡ later) × (next ≡ other)
+tells-decided p q = let (decode, D) = a-decoder in writes-decided (p .line decode D) (q .line decode D)

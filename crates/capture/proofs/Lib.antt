@@ -1,4 +1,0 @@
-pub mod Decoding
-pub mod Upto
-pub mod Turns
-pub mod Cases

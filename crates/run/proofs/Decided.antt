@@ -1,0 +1,83 @@
+-- Whether there is room can be told; so two outcomes that the promise of a run or of a turn allows are equal, with the buffers that they leave.
+-- Assumes nothing.
+use mathlib.Core.Path.{_≡_, refl, sym, ap, _∙_}
+use mathlib.Core.Bool.{Bool, true, false}
+use mathlib.Core.List.{List}
+use Prim.Native.Nat.{ℕ, _+_, _≤_, _^_}
+use native.Mathlib.Omega.{arith}
+use lib.Dec.{leb, ltb}
+use lib.ListN.{length}
+use borrow.Author.Tests.{leb-true, leb-false, ltb-true, ltb-false}
+use Rattle.lines.specs.Lines.{longest}
+use Rattle.answers.proofs.Decoding.{a-decoder}
+use Rattle.run.specs.declared.kinds.Outcome.{Outcome}
+use Rattle.run.specs.declared.kinds.Turned.{Turned}
+use Rattle.run.specs.Runs.{Room, Runs, RunRule, Turns, TurnRoom, TurnRule}
+
+data Decided (P : Type 0) : Type 0 where
+  yes : P → Decided P
+  no : (P → ⊥) → Decided P
+
+room-decided : (offset n buffer : ℕ) → Decided (Room offset n buffer)
+room-decided offset n buffer = cases (leb (n + longest) buffer) (ltb (offset + n) (2 ^ 64)) refl refl
+  where
+    cases : (a b : Bool) → leb (n + longest) buffer ≡ a → ltb (offset + n) (2 ^ 64) ≡ b → Decided (Room offset n buffer)
+    cases true true e f = yes (record { lines = leb-true (n + longest) buffer e; offsets = ltb-true (offset + n) (2 ^ 64) f })
+    cases true false e f = no (λ R. omega (arith, ltb-false (offset + n) (2 ^ 64) f, R .offsets))
+    cases false b e f = no (λ R. omega (arith, leb-false (n + longest) buffer e, R .lines))
+
+turn-decided : (offset count held buffer : ℕ) → Decided (TurnRoom offset count held buffer)
+turn-decided offset count held buffer = cases (leb count held) refl (room-decided offset count buffer)
+  where
+    cases : (a : Bool) → leb count held ≡ a → Decided (Room offset count buffer) → Decided (TurnRoom offset count held buffer)
+    cases true e (yes R) = yes (record { bytes = leb-true count held e; text = R })
+    cases true e (no R) = no (λ T. R (T .text))
+    cases false e R = no (λ T. omega (arith, leb-false count held e, T .bytes))
+
+-- an outcome by its fields
+outcome-same : {r s : Outcome} → r .put ≡ s .put → r .stopped ≡ s .stopped → r ≡ s
+outcome-same p q = λ i. record { put = p i; stopped = q i }
+
+turned-same : {r s : Turned} → r .outcome ≡ s .outcome → r .left ≡ s .left → r .next ≡ s .next → r ≡ s
+turned-same p q e = λ i. record { outcome = p i; left = q i; next = e i }
+
+runs-once :
+    {offset : ℕ} {bytes before after later : List ℕ} {r s : Outcome}
+    → Runs offset bytes before after r
+    → Runs offset bytes before later s
+    → (after ≡ later) × (r ≡ s)
+runs-once R S =
+    let p = R .text (a-decoder .0) (a-decoder .1) in
+    let q = S .text (a-decoder .0) (a-decoder .1) in
+    (p .buffer ∙ sym (q .buffer), outcome-same (p .place ∙ sym (q .place)) (R .stopped ∙ sym (S .stopped)))
+
+pub run-once :
+    {offset : ℕ} {bytes before after later : List ℕ} {r s : Outcome}
+    → RunRule offset bytes before after r
+    → RunRule offset bytes before later s
+    → (after ≡ later) × (r ≡ s)
+run-once {offset} {bytes} {before} {after} {later} {r} {s} R S = cases (room-decided offset (length bytes) (length before))
+  where
+    cases : Decided (Room offset (length bytes) (length before)) → (after ≡ later) × (r ≡ s)
+    cases (yes room) = runs-once (R .room room) (S .room room)
+    cases (no none) = let (a, p) = R .none none in let (b, q) = S .none none in (a ∙ sym b, p ∙ sym q)
+
+pub turn-once :
+    {offset count : ℕ} {held before after later kept rest : List ℕ} {r s : Turned}
+    → TurnRule offset count held before after kept r
+    → TurnRule offset count held before later rest s
+    → (after ≡ later) × (kept ≡ rest) × (r ≡ s)
+turn-once {offset} {count} {held} {before} {after} {later} {kept} {rest} {r} {s} R S =
+    cases (turn-decided offset count (length held) (length before))
+  where
+    cases : Decided (TurnRoom offset count (length held) (length before)) → (after ≡ later) × (kept ≡ rest) × (r ≡ s)
+    cases (yes room) =
+        let T = R .room room in
+        let U = S .room room in
+        let (e, o) = runs-once (T .ran) (U .ran) in
+        (e, T .front ∙ sym (U .front), turned-same o (T .left ∙ sym (U .left)) (T .next ∙ sym (U .next)))
+    cases (no none) = let (a, b, p) = R .none none in let (c, d, q) = S .none none in (a ∙ sym c, b ∙ sym d, p ∙ sym q)
+
+-- the text of a run fits its buffer
+pub run-fits : {offset : ℕ} {bytes before after : List ℕ} {r : Outcome} → Runs offset bytes before after r → r .put ≤ length before
+run-fits R = let p = R .text (a-decoder .0) (a-decoder .1) in omega (arith, p .room, p .place)

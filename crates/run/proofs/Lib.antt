@@ -1,0 +1,4 @@
+pub mod Upto
+pub mod Turns
+pub mod Decided
+pub mod Cases
