@@ -10,6 +10,8 @@ use native.Mathlib.Decide.{ℕ-discrete}
 use lib.Dec.{eqb, lit≤}
 use lib.IntN.{ℤ, pos, _-ℤ_, +ℤ-idr}
 use lib.ListN.{length, getD}
+use mir.Syntax.{w32, w64}
+use mir.Val.{Fits}
 use Rattle.signed.specs.Sign.{sign}
 use Rattle.signed.specs.Within.{Within}
 use Rattle.signed.proofs.Bounds.{within-pos, within-sub, within-le}
@@ -20,7 +22,7 @@ use Rattle.contest.specs.Figures.{signs, least, reached, code}
 use Rattle.contest.proofs.Numbers.{one-small, bit-same, bit-other}
 use Rattle.contest.proofs.Codes.{codeSum, codeLeast, codes-weight, codes-odd, codes-least}
 use Rattle.code.specs.Characters.{fourth, fifth, sixth}
-use Rattle.classes.specs.Classes.{parityOf, charactersOf}
+use Rattle.classes.specs.Classes.{classes, parityOf, charactersOf}
 use Rattle.columns.specs.Places.{Filled}
 use Rattle.columns.specs.Columns.{SumsWithin, place, far}
 use Rattle.columns.proofs.Picking.{fourth-small, fifth-small, sixth-small}
@@ -123,7 +125,37 @@ second-place k h = omega arith
 parity-place : (k : ℕ) → k < 128 → k / 4 / 16 ≡ parityOf k
 parity-place k h = omega arith
 
--- the classes from 4 q on
+-- the four classes from 4 q on: each is one of 128, and its number fits
+pub record Group (q : ℕ) : Type 0 where
+  pub known-0 : 4 * q < classes
+  pub known-1 : 4 * q + 1 < classes
+  pub known-2 : 4 * q + 2 < classes
+  pub known-3 : 4 * q + 3 < classes
+  pub fits-0 : Fits w32 (4 * q)
+  pub fits-1 : Fits w32 (4 * q + 1)
+  pub fits-2 : Fits w32 (4 * q + 2)
+  pub fits-3 : Fits w32 (4 * q + 3)
+  pub wide-0 : Fits w64 (4 * q)
+  pub wide-1 : Fits w64 (4 * q + 1)
+  pub wide-2 : Fits w64 (4 * q + 2)
+  pub wide-3 : Fits w64 (4 * q + 3)
+
+pub group : {q : ℕ} → q < 32 → Group q
+group h = record {
+  known-0 = omega arith;
+  known-1 = omega arith;
+  known-2 = omega arith;
+  known-3 = omega arith;
+  fits-0 = omega arith;
+  fits-1 = omega arith;
+  fits-2 = omega arith;
+  fits-3 = omega arith;
+  wide-0 = omega arith;
+  wide-1 = omega arith;
+  wide-2 = omega arith;
+  wide-3 = omega arith;
+}
+
 module _ (e : List ℕ) (q : ℕ) where
   abbrev pub x1 : ℕ
   x1 = getD e (q / 4) 0
