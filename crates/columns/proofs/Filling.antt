@@ -1,11 +1,13 @@
--- Filling a list's places in order: one more, four more, eight more.
+-- Filling a list's places in order: one more, four more, eight more; and that the places of an array of 64-bit numbers can be reached.
 use mathlib.Core.Path.{_≡_, refl, _∙_}
 use mathlib.Core.List.{List}
-use Prim.Native.Nat.{ℕ, _+_, _<_}
+use Prim.Native.Nat.{ℕ, _+_, _*_, _≤_, _<_}
 use native.Mathlib.Omega.{arith}
 use native.Mathlib.Decide.{ℕ-discrete}
 use lib.ListN.{getD, set, length-set}
 use lib.Seq.{getD-set-same, getD-set-other}
+use mir.Syntax.{w64}
+use mir.Val.{Fits}
 use Rattle.columns.specs.Places.{Filled}
 
 module _ {A : Type 0} (default : A) (Right : ℕ → A → Type 0) where
@@ -34,3 +36,29 @@ module _ {A : Type 0} (default : A) (Right : ℕ → A → Type 0) where
       (put (n + 6) (n + 7) (omega arith) (omega arith) r6
       (put (n + 5) (n + 6) (omega arith) (omega arith) r5
       (put (n + 4) (n + 5) (omega arith) (omega arith) r4 (put-four n (omega arith) r0 r1 r2 r3 F))))
+
+-- ---- n places from i on, in an array of l: each stands in it, and its number and where its bytes begin fit
+
+pub record Part (i n l : ℕ) : Type 0 where
+  pub ends : i + n ≤ l
+  pub short : l ≤ 64
+
+module _ {i n l : ℕ} (P : Part i n l) (h : 0 < n) where
+  pub start-in : i < l
+  start-in = omega (arith, P .ends)
+
+  pub start-fits : Fits w64 i
+  start-fits = omega (arith, P .ends, P .short)
+
+  pub start-bytes : Fits w64 (i * 8)
+  start-bytes = omega (arith, P .ends, P .short)
+
+module _ {i n l : ℕ} (P : Part i n l) (k : ℕ) (h : k < n) where
+  pub part-in : i + k < l
+  part-in = omega (arith, P .ends)
+
+  pub part-fits : Fits w64 (i + k)
+  part-fits = omega (arith, P .ends, P .short)
+
+  pub part-bytes : Fits w64 ((i + k) * 8)
+  part-bytes = omega (arith, P .ends, P .short)

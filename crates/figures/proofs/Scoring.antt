@@ -3,7 +3,7 @@ use mathlib.Core.Path.{_≡_, refl, sym, ap, ap₂, _∙_}
 use mathlib.Core.Logic.{_≢_}
 use mathlib.Core.Bool.{Bool, true, false}
 use mathlib.Core.List.{List, [], _∷_}
-use Prim.Native.Nat.{ℕ, zero, suc, _+_, _*_, _/_, _%_, _≤_, _<_, min}
+use Prim.Native.Nat.{ℕ, zero, suc, _+_, _-_, _*_, _/_, _%_, _≤_, _<_, min}
 use native.Mathlib.Nat.{min-comm}
 use native.Mathlib.Omega.{arith}
 use native.Mathlib.Decide.{ℕ-discrete}
@@ -25,10 +25,11 @@ use Rattle.code.specs.Characters.{fourth, fifth, sixth}
 use Rattle.classes.specs.Classes.{classes, parityOf, charactersOf}
 use Rattle.columns.specs.Places.{Filled}
 use Rattle.columns.specs.Columns.{SumsWithin, place, far}
+use Rattle.columns.proofs.Filling.{Part}
 use Rattle.columns.proofs.Picking.{fourth-small, fifth-small, sixth-small}
 use Rattle.pairs.specs.Pairs.{widest, firstOf, secondOf, Pairs}
 use Rattle.pairs.proofs.Pairing.{padded, pairs-within}
-use Rattle.figures.specs.Figures.{reachedFrom, CodeAt, Codes, Usable, middleOf, lastOf, scored, figureFrom, figureOf, figureAt}
+use Rattle.figures.specs.Figures.{reachedFrom, CodeAt, Codes, Usable, FirstTwo, middleOf, lastOf, scored, figureFrom, figureOf, figureAt}
 
 -- ---- codes
 
@@ -125,37 +126,46 @@ second-place k h = omega arith
 parity-place : (k : ℕ) → k < 128 → k / 4 / 16 ≡ parityOf k
 parity-place k h = omega arith
 
--- the four classes from 4 q on: each is one of 128, and its number fits
-pub record Group (q : ℕ) : Type 0 where
-  pub known-0 : 4 * q < classes
-  pub known-1 : 4 * q + 1 < classes
-  pub known-2 : 4 * q + 2 < classes
-  pub known-3 : 4 * q + 3 < classes
-  pub fits-0 : Fits w32 (4 * q)
-  pub fits-1 : Fits w32 (4 * q + 1)
-  pub fits-2 : Fits w32 (4 * q + 2)
-  pub fits-3 : Fits w32 (4 * q + 3)
-  pub wide-0 : Fits w64 (4 * q)
-  pub wide-1 : Fits w64 (4 * q + 1)
-  pub wide-2 : Fits w64 (4 * q + 2)
-  pub wide-3 : Fits w64 (4 * q + 3)
+-- each of the four classes from 4 q on is one of 128, and its number fits
+module _ {q : ℕ} (h : q < 32) (k : ℕ) (four : k < 4) where
+  pub class-known : 4 * q + k < classes
+  class-known = omega arith
 
-pub group : {q : ℕ} → q < 32 → Group q
-group h = record {
-  known-0 = omega arith;
-  known-1 = omega arith;
-  known-2 = omega arith;
-  known-3 = omega arith;
-  fits-0 = omega arith;
-  fits-1 = omega arith;
-  fits-2 = omega arith;
-  fits-3 = omega arith;
-  wide-0 = omega arith;
-  wide-1 = omega arith;
-  wide-2 = omega arith;
-  wide-3 = omega arith;
+  pub class-fits : Fits w32 (4 * q + k)
+  class-fits = omega arith
+
+  pub class-wide : Fits w64 (4 * q + k)
+  class-wide = omega arith
+
+-- the places of their first two columns can be reached
+pub record Firsts (q : ℕ) : Type 0 where
+  pub wide : Fits w64 q
+  pub x : Part (q / 4) 1 48
+  pub half : Fits w64 (q / 16 * 4)
+  pub from-second : Fits w64 (8 + q / 16 * 4)
+  pub y : Part (8 + q / 16 * 4 + q % 4) 1 48
+  pub parity : Fits w64 (q / 16)
+  pub next : Fits w32 (q + 1)
+  pub up : q + 1 ≤ 32
+  pub less : 32 - (q + 1) < 32 - q
+
+pub firsts : {q : ℕ} → q < 32 → Firsts q
+firsts h = record {
+  wide = omega arith;
+  x = record { ends = omega arith; short = lit≤ tt };
+  half = omega arith;
+  from-second = omega arith;
+  y = record { ends = omega arith; short = lit≤ tt };
+  parity = omega arith;
+  next = omega arith;
+  up = omega arith;
+  less = omega arith;
 }
 
+pub four-more : (q : ℕ) → 4 * (q + 1) ≡ 4 * q + 4
+four-more q = omega arith
+
+-- what these columns say
 module _ (e : List ℕ) (q : ℕ) where
   abbrev pub x1 : ℕ
   x1 = getD e (q / 4) 0
@@ -163,8 +173,19 @@ module _ (e : List ℕ) (q : ℕ) where
   abbrev pub x2 : ℕ
   x2 = getD e (8 + q / 16 * 4 + q % 4) 0
 
-  pub first-two-small : ((j : ℕ) → getD e j 0 ≤ widest) → q < 32 → x1 + x2 + q / 16 ≤ 2 * widest + 1
-  first-two-small w h = omega (arith, w (q / 4), w (8 + q / 16 * 4 + q % 4))
+  module _ (w : (j : ℕ) → getD e j 0 ≤ widest) where
+    pub first-two-fits : Fits w64 (x1 + x2)
+    first-two-fits = omega (arith, w (q / 4), w (8 + q / 16 * 4 + q % 4))
+
+    module _ (h : q < 32) where
+      pub first-three-fits : Fits w64 (x1 + x2 + q / 16)
+      first-three-fits = omega (arith, w (q / 4), w (8 + q / 16 * 4 + q % 4))
+
+      pub first-two-small : {l : ℕ} → l ≡ min x1 x2 → FirstTwo (record { sum = x1 + x2 + q / 16; least = l })
+      first-two-small e = record {
+        sum = omega (arith, w (q / 4), w (8 + q / 16 * 4 + q % 4));
+        least = omega (arith, w (q / 4));
+      }
 
   pub figure-from : {s l : List ℕ} → Pairs _+_ e s → Pairs min e l → q < 32 → {least : ℕ} → least ≡ min x1 x2
       → (k : ℕ) → 4 * q ≤ k → k < 4 * q + 4 → figureAt e k ≡ figureFrom s l (x1 + x2 + q / 16) least k

@@ -1,7 +1,7 @@
 -- The pairs of codes in their places, four at a time, by any rule for two codes; and how large they get.
 use mathlib.Core.Path.{_≡_, refl}
 use mathlib.Core.List.{List}
-use Prim.Native.Nat.{ℕ, _+_, _*_, _/_, _%_, _≤_, _<_}
+use Prim.Native.Nat.{ℕ, _+_, _-_, _*_, _/_, _%_, _≤_, _<_}
 use native.Mathlib.Omega.{arith}
 use native.Mathlib.Decide.{decLe}
 use lib.Dec.{lit≤}
@@ -9,7 +9,7 @@ use lib.ListN.{length, getD, set, List·getD-eq-default}
 use mir.Syntax.{w64}
 use mir.Val.{Fits}
 use Rattle.columns.specs.Places.{Filled}
-use Rattle.columns.proofs.Filling.{put-four}
+use Rattle.columns.proofs.Filling.{Part, put-four}
 use Rattle.pairs.specs.Pairs.{widest, firstOf, secondOf, PairAt, Pairs}
 
 -- past the end of a list there are zeros
@@ -30,48 +30,18 @@ module _ (q : ℕ) where
   abbrev pub second : ℕ
   second = 24 + q / 8 * 16 + q % 8 / 4 * 4
 
--- four places from i on, of l: each stands in the array, and its number and its bytes fit
-pub record Four (i l : ℕ) : Type 0 where
-  pub in-0 : i < l
-  pub in-1 : i + 1 < l
-  pub in-2 : i + 2 < l
-  pub in-3 : i + 3 < l
-  pub fits-0 : Fits w64 i
-  pub fits-1 : Fits w64 (i + 1)
-  pub fits-2 : Fits w64 (i + 2)
-  pub fits-3 : Fits w64 (i + 3)
-  pub bytes-0 : Fits w64 (i * 8)
-  pub bytes-1 : Fits w64 ((i + 1) * 8)
-  pub bytes-2 : Fits w64 ((i + 2) * 8)
-  pub bytes-3 : Fits w64 ((i + 3) * 8)
-
-four : {i l : ℕ} → i + 3 < l → l ≤ 64 → Four i l
-four h b = record {
-  in-0 = omega arith;
-  in-1 = omega arith;
-  in-2 = omega arith;
-  in-3 = h;
-  fits-0 = omega arith;
-  fits-1 = omega arith;
-  fits-2 = omega arith;
-  fits-3 = omega arith;
-  bytes-0 = omega arith;
-  bytes-1 = omega arith;
-  bytes-2 = omega arith;
-  bytes-3 = omega arith;
-}
-
--- the places of a turn
+-- the places of a turn can be reached
 pub record Turn (q : ℕ) : Type 0 where
   pub half : Fits w64 (q / 8 * 16)
   pub from-third : Fits w64 (16 + q / 8 * 16)
   pub from-fourth : Fits w64 (24 + q / 8 * 16)
   pub parity : Fits w64 (q % 8 / 4 * 4)
-  pub first-in : first q < 48
-  pub first-fits : Fits w64 (first q)
-  pub first-bytes : Fits w64 (first q * 8)
-  pub read : Four (second q) 48
-  pub written : Four (4 * q) 64
+  pub x : Part (first q) 1 48
+  pub read : Part (second q) 4 48
+  pub written : Part (4 * q) 4 64
+  pub next : Fits w64 (q + 1)
+  pub up : q + 1 ≤ 16
+  pub less : 16 - (q + 1) < 16 - q
 
 pub turn : {q : ℕ} → q < 16 → Turn q
 turn h = record {
@@ -79,11 +49,12 @@ turn h = record {
   from-third = omega arith;
   from-fourth = omega arith;
   parity = omega arith;
-  first-in = omega arith;
-  first-fits = omega arith;
-  first-bytes = omega arith;
-  read = four (omega arith) (lit≤ tt);
-  written = four (omega arith) (lit≤ tt);
+  x = record { ends = omega arith; short = lit≤ tt };
+  read = record { ends = omega arith; short = lit≤ tt };
+  written = record { ends = omega arith; short = lit≤ tt };
+  next = omega arith;
+  up = omega arith;
+  less = omega arith;
 }
 
 module _ (f : ℕ → ℕ → ℕ) {e : List ℕ} where

@@ -3,8 +3,10 @@ use mathlib.Core.Path.{_≡_, refl}
 use Prim.Native.Nat.{_+_, _*_, _-_, _/_, _≤_}
 use native.Mathlib.Omega.{arith}
 use borrow.Author.Needs.{needs}
+use lib.Dec.{lit<}
+use Rattle.columns.proofs.Filling.{start-in, start-fits, start-bytes}
 use Rattle.figures.specs.Figures.{middleOf, lastOf, figureAt, KeptUpTo}
-use Rattle.figures.proofs.Scoring.{sums-usable, leasts-usable, table-at, first-two-small, figure-from}
+use Rattle.figures.proofs.Scoring.{sums-usable, leasts-usable, table-at, firsts, first-two-fits, first-three-fits, first-two-small, four-more, figure-from}
 use Rattle.figures.proofs.largest_of.Statement.{statement}
 use Rattle.figures.proofs.largest_of.Tie as tie
 
@@ -24,43 +26,40 @@ loop-holds : tie.Need-loop-holds Inv-loop μ-loop
 loop-holds c = (omega arith, record { none = λ e. refl; some = λ h. absurd (omega arith) })
 
 cast-i : tie.Need-cast-i Inv-loop μ-loop
-cast-i c = omega arith
+cast-i c = firsts (c .loop-test .taken) .wide
 
 mul-x : tie.Need-mul-x Inv-loop μ-loop
-mul-x c = omega arith
+mul-x c = start-bytes (firsts (c .loop-test .taken) .x) (lit< tt)
 
 element-copy-out-x : tie.Need-element-copy-out-x Inv-loop μ-loop
-element-copy-out-x c = omega arith
+element-copy-out-x c = start-in (firsts (c .loop-test .taken) .x) (lit< tt)
 
 mul-y : tie.Need-mul-y Inv-loop μ-loop
-mul-y c = omega arith
+mul-y c = firsts (c .before .loop-test .taken) .half
 
 add-y : tie.Need-add-y Inv-loop μ-loop
-add-y c = omega arith
+add-y c = firsts (c .before .loop-test .taken) .from-second
 
 add-y-2 : tie.Need-add-y-2 Inv-loop μ-loop
-add-y-2 c = omega arith
+add-y-2 c = start-fits (firsts (c .before .loop-test .taken) .y) (lit< tt)
 
 mul-y-2 : tie.Need-mul-y-2 Inv-loop μ-loop
-mul-y-2 c = omega arith
+mul-y-2 c = start-bytes (firsts (c .before .loop-test .taken) .y) (lit< tt)
 
 element-copy-out-y : tie.Need-element-copy-out-y Inv-loop μ-loop
-element-copy-out-y c = omega arith
+element-copy-out-y c = start-in (firsts (c .before .loop-test .taken) .y) (lit< tt)
 
 add-t19 : tie.Need-add-t19 Inv-loop μ-loop
-add-t19 c =
-    let l = c .before .before .before in
-    let a = l .before .before .before in
-    omega (arith, first-two-small (a .args .codes .now) (l .loop .q) (a .pre) (omega arith))
+add-t19 c = let a = c .before .before .before .before .before .before in first-two-fits (a .args .codes .now) _ (a .pre)
 
 cast-t27 : tie.Need-cast-t27 Inv-loop μ-loop
-cast-t27 c = omega arith
+cast-t27 c = firsts (c .before .before .loop-test .taken) .parity
 
 add-t28 : tie.Need-add-t28 Inv-loop μ-loop
 add-t28 c =
-    let l = c .before .before .before in
-    let a = l .before .before .before in
-    omega (arith, first-two-small (a .args .codes .now) (l .loop .q) (a .pre) (omega arith))
+    let l = c .before .before in
+    let a = l .before .before .before .before in
+    first-three-fits (a .args .codes .now) _ (a .pre) (l .loop-test .taken)
 
 smaller-requires : tie.Need-smaller-requires Inv-loop μ-loop
 smaller-requires c κs = search needs
@@ -68,28 +67,30 @@ smaller-requires c κs = search needs
 take-four-requires : tie.Need-take-four-requires Inv-loop μ-loop
 take-four-requires c κs =
     let taken = c .before .before .before .before in
-    let l = taken .before .before .before .before in
-    let a = l .before .before .before in
-    let small = first-two-small (a .args .codes .now) (l .loop .q) (a .pre) (omega arith) in (
-      (omega arith, record { sum = small; least = omega (arith, taken .smaller .ensures, a .pre (l .loop .q / 4)) }),
-      ((sums-usable (a .pre) (l .before .before .pair-sums .ensures), leasts-usable (a .pre) (l .before .pair-leasts .ensures)), (table-at middleOf 128, table-at lastOf 128)),
+    let l = taken .before .before .before in
+    let a = l .before .before .before .before in (
+      (l .loop-test .taken, first-two-small (a .args .codes .now) _ (a .pre) (l .loop-test .taken) (taken .smaller .ensures)),
+      (
+        (sums-usable (a .pre) (l .before .before .before .pair-sums .ensures), leasts-usable (a .pre) (l .before .before .pair-leasts .ensures)),
+        (table-at middleOf 128, table-at lastOf 128),
+      ),
     )
 
 add-q : tie.Need-add-q Inv-loop μ-loop
-add-q c = omega arith
+add-q c = firsts (c .before .before .before .before .before .before .before .before .loop-test .taken) .next
 
 loop-less : tie.Need-loop-less Inv-loop μ-loop
-loop-less c = omega arith
+loop-less c = firsts (c .before .before .before .before .before .before .before .before .loop-test .taken) .less
 
 loop-again : tie.Need-loop-again Inv-loop μ-loop
 loop-again c =
     let taken = c .before .before .before .before .before in
-    let l = taken .before .before .before .before in
-    let e = l .before .before .before .args .codes .now in
-    let q = l .loop .q in
-    let n : 4 * (q + 1) ≡ 4 * q + 4 = omega arith in
-    let is = figure-from e q (l .before .before .pair-sums .ensures) (l .before .pair-leasts .ensures) (omega arith) (taken .smaller .ensures) in
-    (omega arith, rw n (c .take-four .ensures (figureAt e) is (l .loop .inv .1)))
+    let l = taken .before .before .before in
+    let e = l .before .before .before .before .args .codes .now in
+    let q = l .before .loop .q in
+    let n : 4 * (q + 1) ≡ 4 * q + 4 = four-more q in
+    let is = figure-from e q (l .before .before .before .pair-sums .ensures) (l .before .before .pair-leasts .ensures) (l .loop-test .taken) (taken .smaller .ensures) in
+    (firsts (l .loop-test .taken) .up, rw n (c .take-four .ensures (figureAt e) is (l .before .loop .inv .1)))
 
 returns : tie.Need-returns Inv-loop μ-loop
 returns c = let e : c .before .loop .q ≡ 32 = omega arith in rw e at (c .before .loop .inv .1)

@@ -1,54 +1,55 @@
 -- `figures::take_four` meets its contract: four steps of the keeper.
 use borrow.Author.Needs.{needs}
-use Rattle.figures.proofs.Scoring.{group}
+use lib.Dec.{lit<}
+use Rattle.figures.proofs.Scoring.{class-known, class-fits, class-wide}
 use Rattle.figures.proofs.Keeping.{took, kept-four}
 use Rattle.figures.proofs.take_four.Statement.{statement}
 use Rattle.figures.proofs.take_four.Tie as tie
 
 mul-k : tie.Need-mul-k
-mul-k c = group (c .pre .0 .0) .fits-0
+mul-k c = search needs
 
 cast-i : tie.Need-cast-i
-cast-i c = group (c .pre .0 .0) .wide-0
+cast-i c = search needs
 
 figure-requires : tie.Need-figure-requires
-figure-requires c κs = let q = c .pre in ((group (q .0 .0) .known-0, q .0 .1), q .1)
+figure-requires c κs = search needs
 
 take-requires : tie.Need-take-requires
 take-requires c κs = search needs
 
 add-figure : tie.Need-add-figure
-add-figure c = group (c .before .before .pre .0 .0) .wide-1
+add-figure c = class-wide (c .before .before .pre .0 .0) 1 (lit< tt)
 
 figure-requires-2 : tie.Need-figure-requires-2
-figure-requires-2 c κs = let q = c .before .before .pre in ((group (q .0 .0) .known-1, q .0 .1), q .1)
+figure-requires-2 c κs = let q = c .before .before .pre in ((class-known (q .0 .0) 1 (lit< tt), q .0 .1), q .1)
 
 add-take : tie.Need-add-take
-add-take c = group (c .before .before .before .pre .0 .0) .fits-1
+add-take c = class-fits (c .before .before .before .pre .0 .0) 1 (lit< tt)
 
 take-requires-2 : tie.Need-take-requires-2
 take-requires-2 c κs = search needs
 
 add-figure-2 : tie.Need-add-figure-2
-add-figure-2 c = group (c .before .before .before .before .pre .0 .0) .wide-2
+add-figure-2 c = class-wide (c .before .before .before .before .pre .0 .0) 2 (lit< tt)
 
 figure-requires-3 : tie.Need-figure-requires-3
-figure-requires-3 c κs = let q = c .before .before .before .before .pre in ((group (q .0 .0) .known-2, q .0 .1), q .1)
+figure-requires-3 c κs = let q = c .before .before .before .before .pre in ((class-known (q .0 .0) 2 (lit< tt), q .0 .1), q .1)
 
 add-take-2 : tie.Need-add-take-2
-add-take-2 c = group (c .before .before .before .before .before .pre .0 .0) .fits-2
+add-take-2 c = class-fits (c .before .before .before .before .before .pre .0 .0) 2 (lit< tt)
 
 take-requires-3 : tie.Need-take-requires-3
 take-requires-3 c κs = search needs
 
 add-figure-3 : tie.Need-add-figure-3
-add-figure-3 c = group (c .before .before .before .before .before .before .pre .0 .0) .wide-3
+add-figure-3 c = class-wide (c .before .before .before .before .before .before .pre .0 .0) 3 (lit< tt)
 
 figure-requires-4 : tie.Need-figure-requires-4
-figure-requires-4 c κs = let q = c .before .before .before .before .before .before .pre in ((group (q .0 .0) .known-3, q .0 .1), q .1)
+figure-requires-4 c κs = let q = c .before .before .before .before .before .before .pre in ((class-known (q .0 .0) 3 (lit< tt), q .0 .1), q .1)
 
 add-take-3 : tie.Need-add-take-3
-add-take-3 c = group (c .before .before .before .before .before .before .before .pre .0 .0) .fits-3
+add-take-3 c = class-fits (c .before .before .before .before .before .before .before .pre .0 .0) 3 (lit< tt)
 
 take-requires-4 : tie.Need-take-requires-4
 take-requires-4 c κs = search needs

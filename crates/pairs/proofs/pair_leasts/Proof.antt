@@ -3,7 +3,9 @@ use mathlib.Core.Path.{_≡_, refl}
 use Prim.Native.Nat.{_*_, _-_, _≤_, min}
 use native.Mathlib.Omega.{arith}
 use borrow.Author.Needs.{needs}
+use lib.Dec.{lit<}
 use Rattle.columns.specs.Places.{Filled}
+use Rattle.columns.proofs.Filling.{start-in, start-fits, start-bytes, part-in, part-fits, part-bytes}
 use Rattle.pairs.specs.Pairs.{PairAt}
 use Rattle.pairs.proofs.Pairing.{turn, pair-four}
 use Rattle.pairs.proofs.pair_leasts.Statement.{statement}
@@ -25,13 +27,13 @@ add-x : tie.Need-add-x Inv-loop μ-loop
 add-x c = turn (c .loop-test .taken) .from-third
 
 add-x-2 : tie.Need-add-x-2 Inv-loop μ-loop
-add-x-2 c = turn (c .loop-test .taken) .first-fits
+add-x-2 c = start-fits (turn (c .loop-test .taken) .x) (lit< tt)
 
 mul-x-2 : tie.Need-mul-x-2 Inv-loop μ-loop
-mul-x-2 c = turn (c .loop-test .taken) .first-bytes
+mul-x-2 c = start-bytes (turn (c .loop-test .taken) .x) (lit< tt)
 
 element-copy-out-x : tie.Need-element-copy-out-x Inv-loop μ-loop
-element-copy-out-x c = turn (c .loop-test .taken) .first-in
+element-copy-out-x c = start-in (turn (c .loop-test .taken) .x) (lit< tt)
 
 mul-i : tie.Need-mul-i Inv-loop μ-loop
 mul-i c = turn (c .before .loop-test .taken) .half
@@ -43,94 +45,94 @@ mul-i-2 : tie.Need-mul-i-2 Inv-loop μ-loop
 mul-i-2 c = turn (c .before .loop-test .taken) .parity
 
 add-i-2 : tie.Need-add-i-2 Inv-loop μ-loop
-add-i-2 c = turn (c .before .loop-test .taken) .read .fits-0
+add-i-2 c = start-fits (turn (c .before .loop-test .taken) .read) (lit< tt)
 
 mul-n : tie.Need-mul-n Inv-loop μ-loop
-mul-n c = turn (c .before .loop-test .taken) .written .fits-0
+mul-n c = start-fits (turn (c .before .loop-test .taken) .written) (lit< tt)
 
 mul-smaller : tie.Need-mul-smaller Inv-loop μ-loop
-mul-smaller c = turn (c .before .loop-test .taken) .read .bytes-0
+mul-smaller c = start-bytes (turn (c .before .loop-test .taken) .read) (lit< tt)
 
 element-copy-out-smaller : tie.Need-element-copy-out-smaller Inv-loop μ-loop
-element-copy-out-smaller c = turn (c .before .loop-test .taken) .read .in-0
+element-copy-out-smaller c = start-in (turn (c .before .loop-test .taken) .read) (lit< tt)
 
 smaller-requires : tie.Need-smaller-requires Inv-loop μ-loop
 smaller-requires c κs = search needs
 
 mul-r : tie.Need-mul-r Inv-loop μ-loop
-mul-r c = turn (c .before .before .before .loop-test .taken) .written .bytes-0
+mul-r c = start-bytes (turn (c .before .before .before .loop-test .taken) .written) (lit< tt)
 
 array-write-r : tie.Need-array-write-r Inv-loop μ-loop
-array-write-r c = turn (c .before .before .before .loop-test .taken) .written .in-0
+array-write-r c = start-in (turn (c .before .before .before .loop-test .taken) .written) (lit< tt)
 
 add-smaller : tie.Need-add-smaller Inv-loop μ-loop
-add-smaller c = turn (c .before .before .before .loop-test .taken) .read .fits-1
+add-smaller c = part-fits (turn (c .before .before .before .loop-test .taken) .read) 1 (lit< tt)
 
 mul-smaller-2 : tie.Need-mul-smaller-2 Inv-loop μ-loop
-mul-smaller-2 c = turn (c .before .before .before .loop-test .taken) .read .bytes-1
+mul-smaller-2 c = part-bytes (turn (c .before .before .before .loop-test .taken) .read) 1 (lit< tt)
 
 element-copy-out-smaller-2 : tie.Need-element-copy-out-smaller-2 Inv-loop μ-loop
-element-copy-out-smaller-2 c = turn (c .before .before .before .loop-test .taken) .read .in-1
+element-copy-out-smaller-2 c = part-in (turn (c .before .before .before .loop-test .taken) .read) 1 (lit< tt)
 
 smaller-requires-2 : tie.Need-smaller-requires-2 Inv-loop μ-loop
 smaller-requires-2 c κs = search needs
 
 add-r : tie.Need-add-r Inv-loop μ-loop
-add-r c = turn (c .before .before .before .before .before .loop-test .taken) .written .fits-1
+add-r c = part-fits (turn (c .before .before .before .before .before .loop-test .taken) .written) 1 (lit< tt)
 
 mul-r-2 : tie.Need-mul-r-2 Inv-loop μ-loop
-mul-r-2 c = turn (c .before .before .before .before .before .loop-test .taken) .written .bytes-1
+mul-r-2 c = part-bytes (turn (c .before .before .before .before .before .loop-test .taken) .written) 1 (lit< tt)
 
 array-write-r-2 : tie.Need-array-write-r-2 Inv-loop μ-loop
-array-write-r-2 c = turn (c .before .before .before .before .before .loop-test .taken) .written .in-1
+array-write-r-2 c = part-in (turn (c .before .before .before .before .before .loop-test .taken) .written) 1 (lit< tt)
 
 add-smaller-2 : tie.Need-add-smaller-2 Inv-loop μ-loop
-add-smaller-2 c = turn (c .before .before .before .before .before .loop-test .taken) .read .fits-2
+add-smaller-2 c = part-fits (turn (c .before .before .before .before .before .loop-test .taken) .read) 2 (lit< tt)
 
 mul-smaller-3 : tie.Need-mul-smaller-3 Inv-loop μ-loop
-mul-smaller-3 c = turn (c .before .before .before .before .before .loop-test .taken) .read .bytes-2
+mul-smaller-3 c = part-bytes (turn (c .before .before .before .before .before .loop-test .taken) .read) 2 (lit< tt)
 
 element-copy-out-smaller-3 : tie.Need-element-copy-out-smaller-3 Inv-loop μ-loop
-element-copy-out-smaller-3 c = turn (c .before .before .before .before .before .loop-test .taken) .read .in-2
+element-copy-out-smaller-3 c = part-in (turn (c .before .before .before .before .before .loop-test .taken) .read) 2 (lit< tt)
 
 smaller-requires-3 : tie.Need-smaller-requires-3 Inv-loop μ-loop
 smaller-requires-3 c κs = search needs
 
 add-r-2 : tie.Need-add-r-2 Inv-loop μ-loop
-add-r-2 c = turn (c .before .before .before .before .before .before .before .loop-test .taken) .written .fits-2
+add-r-2 c = part-fits (turn (c .before .before .before .before .before .before .before .loop-test .taken) .written) 2 (lit< tt)
 
 mul-r-3 : tie.Need-mul-r-3 Inv-loop μ-loop
-mul-r-3 c = turn (c .before .before .before .before .before .before .before .loop-test .taken) .written .bytes-2
+mul-r-3 c = part-bytes (turn (c .before .before .before .before .before .before .before .loop-test .taken) .written) 2 (lit< tt)
 
 array-write-r-3 : tie.Need-array-write-r-3 Inv-loop μ-loop
-array-write-r-3 c = turn (c .before .before .before .before .before .before .before .loop-test .taken) .written .in-2
+array-write-r-3 c = part-in (turn (c .before .before .before .before .before .before .before .loop-test .taken) .written) 2 (lit< tt)
 
 add-smaller-3 : tie.Need-add-smaller-3 Inv-loop μ-loop
-add-smaller-3 c = turn (c .before .before .before .before .before .before .before .loop-test .taken) .read .fits-3
+add-smaller-3 c = part-fits (turn (c .before .before .before .before .before .before .before .loop-test .taken) .read) 3 (lit< tt)
 
 mul-smaller-4 : tie.Need-mul-smaller-4 Inv-loop μ-loop
-mul-smaller-4 c = turn (c .before .before .before .before .before .before .before .loop-test .taken) .read .bytes-3
+mul-smaller-4 c = part-bytes (turn (c .before .before .before .before .before .before .before .loop-test .taken) .read) 3 (lit< tt)
 
 element-copy-out-smaller-4 : tie.Need-element-copy-out-smaller-4 Inv-loop μ-loop
-element-copy-out-smaller-4 c = turn (c .before .before .before .before .before .before .before .loop-test .taken) .read .in-3
+element-copy-out-smaller-4 c = part-in (turn (c .before .before .before .before .before .before .before .loop-test .taken) .read) 3 (lit< tt)
 
 smaller-requires-4 : tie.Need-smaller-requires-4 Inv-loop μ-loop
 smaller-requires-4 c κs = search needs
 
 add-r-3 : tie.Need-add-r-3 Inv-loop μ-loop
-add-r-3 c = turn (c .before .before .before .before .before .before .before .before .before .loop-test .taken) .written .fits-3
+add-r-3 c = part-fits (turn (c .before .before .before .before .before .before .before .before .before .loop-test .taken) .written) 3 (lit< tt)
 
 mul-r-4 : tie.Need-mul-r-4 Inv-loop μ-loop
-mul-r-4 c = turn (c .before .before .before .before .before .before .before .before .before .loop-test .taken) .written .bytes-3
+mul-r-4 c = part-bytes (turn (c .before .before .before .before .before .before .before .before .before .loop-test .taken) .written) 3 (lit< tt)
 
 array-write-r-4 : tie.Need-array-write-r-4 Inv-loop μ-loop
-array-write-r-4 c = turn (c .before .before .before .before .before .before .before .before .before .loop-test .taken) .written .in-3
+array-write-r-4 c = part-in (turn (c .before .before .before .before .before .before .before .before .before .loop-test .taken) .written) 3 (lit< tt)
 
 add-q : tie.Need-add-q Inv-loop μ-loop
-add-q c = omega arith
+add-q c = turn (c .before .before .before .before .before .before .before .before .before .loop-test .taken) .next
 
 loop-less : tie.Need-loop-less Inv-loop μ-loop
-loop-less c = omega arith
+loop-less c = turn (c .before .before .before .before .before .before .before .before .before .loop-test .taken) .less
 
 loop-again : tie.Need-loop-again Inv-loop μ-loop
 loop-again c =
@@ -138,7 +140,7 @@ loop-again c =
     let second = third .before .before in
     let first = second .before .before in
     let l = first .before .before .before in (
-      omega arith,
+      turn (l .loop-test .taken) .up,
       pair-four min (l .loop-test .taken) (l .before .loop .inv .1)
           (first .smaller .ensures) (second .smaller2 .ensures) (third .smaller3 .ensures) (c .smaller4 .ensures),
     )

@@ -2,7 +2,9 @@
 use mathlib.Core.Path.{_≡_, refl}
 use Prim.Native.Nat.{_+_, _*_, _-_, _≤_}
 use native.Mathlib.Omega.{arith}
+use lib.Dec.{lit<}
 use Rattle.columns.specs.Places.{Filled}
+use Rattle.columns.proofs.Filling.{start-in, start-fits, start-bytes, part-in, part-fits, part-bytes}
 use Rattle.pairs.specs.Pairs.{PairAt}
 use Rattle.pairs.proofs.Pairing.{turn, pair-fits, pair-four}
 use Rattle.pairs.proofs.pair_sums.Statement.{statement}
@@ -24,13 +26,13 @@ add-x : tie.Need-add-x Inv-loop μ-loop
 add-x c = turn (c .loop-test .taken) .from-third
 
 add-x-2 : tie.Need-add-x-2 Inv-loop μ-loop
-add-x-2 c = turn (c .loop-test .taken) .first-fits
+add-x-2 c = start-fits (turn (c .loop-test .taken) .x) (lit< tt)
 
 mul-x-2 : tie.Need-mul-x-2 Inv-loop μ-loop
-mul-x-2 c = turn (c .loop-test .taken) .first-bytes
+mul-x-2 c = start-bytes (turn (c .loop-test .taken) .x) (lit< tt)
 
 element-copy-out-x : tie.Need-element-copy-out-x Inv-loop μ-loop
-element-copy-out-x c = turn (c .loop-test .taken) .first-in
+element-copy-out-x c = start-in (turn (c .loop-test .taken) .x) (lit< tt)
 
 mul-i : tie.Need-mul-i Inv-loop μ-loop
 mul-i c = turn (c .before .loop-test .taken) .half
@@ -42,99 +44,99 @@ mul-i-2 : tie.Need-mul-i-2 Inv-loop μ-loop
 mul-i-2 c = turn (c .before .loop-test .taken) .parity
 
 add-i-2 : tie.Need-add-i-2 Inv-loop μ-loop
-add-i-2 c = turn (c .before .loop-test .taken) .read .fits-0
+add-i-2 c = start-fits (turn (c .before .loop-test .taken) .read) (lit< tt)
 
 mul-n : tie.Need-mul-n Inv-loop μ-loop
-mul-n c = turn (c .before .loop-test .taken) .written .fits-0
+mul-n c = start-fits (turn (c .before .loop-test .taken) .written) (lit< tt)
 
 mul-r : tie.Need-mul-r Inv-loop μ-loop
-mul-r c = turn (c .before .loop-test .taken) .read .bytes-0
+mul-r c = start-bytes (turn (c .before .loop-test .taken) .read) (lit< tt)
 
 element-copy-out-r : tie.Need-element-copy-out-r Inv-loop μ-loop
-element-copy-out-r c = turn (c .before .loop-test .taken) .read .in-0
+element-copy-out-r c = start-in (turn (c .before .loop-test .taken) .read) (lit< tt)
 
 add-r : tie.Need-add-r Inv-loop μ-loop
 add-r c = let a = c .before .before .before .before in pair-fits (a .args .codes .now) (a .pre) _ _
 
 mul-r-2 : tie.Need-mul-r-2 Inv-loop μ-loop
-mul-r-2 c = turn (c .before .before .loop-test .taken) .written .bytes-0
+mul-r-2 c = start-bytes (turn (c .before .before .loop-test .taken) .written) (lit< tt)
 
 array-write-r : tie.Need-array-write-r Inv-loop μ-loop
-array-write-r c = turn (c .before .before .loop-test .taken) .written .in-0
+array-write-r c = start-in (turn (c .before .before .loop-test .taken) .written) (lit< tt)
 
 add-r-2 : tie.Need-add-r-2 Inv-loop μ-loop
-add-r-2 c = turn (c .before .before .loop-test .taken) .read .fits-1
+add-r-2 c = part-fits (turn (c .before .before .loop-test .taken) .read) 1 (lit< tt)
 
 mul-r-3 : tie.Need-mul-r-3 Inv-loop μ-loop
-mul-r-3 c = turn (c .before .before .loop-test .taken) .read .bytes-1
+mul-r-3 c = part-bytes (turn (c .before .before .loop-test .taken) .read) 1 (lit< tt)
 
 element-copy-out-r-2 : tie.Need-element-copy-out-r-2 Inv-loop μ-loop
-element-copy-out-r-2 c = turn (c .before .before .loop-test .taken) .read .in-1
+element-copy-out-r-2 c = part-in (turn (c .before .before .loop-test .taken) .read) 1 (lit< tt)
 
 add-r-3 : tie.Need-add-r-3 Inv-loop μ-loop
 add-r-3 c = let a = c .before .before .before .before .before in pair-fits (a .args .codes .now) (a .pre) _ _
 
 add-r-4 : tie.Need-add-r-4 Inv-loop μ-loop
-add-r-4 c = turn (c .before .before .before .loop-test .taken) .written .fits-1
+add-r-4 c = part-fits (turn (c .before .before .before .loop-test .taken) .written) 1 (lit< tt)
 
 mul-r-4 : tie.Need-mul-r-4 Inv-loop μ-loop
-mul-r-4 c = turn (c .before .before .before .loop-test .taken) .written .bytes-1
+mul-r-4 c = part-bytes (turn (c .before .before .before .loop-test .taken) .written) 1 (lit< tt)
 
 array-write-r-2 : tie.Need-array-write-r-2 Inv-loop μ-loop
-array-write-r-2 c = turn (c .before .before .before .loop-test .taken) .written .in-1
+array-write-r-2 c = part-in (turn (c .before .before .before .loop-test .taken) .written) 1 (lit< tt)
 
 add-r-5 : tie.Need-add-r-5 Inv-loop μ-loop
-add-r-5 c = turn (c .before .before .before .loop-test .taken) .read .fits-2
+add-r-5 c = part-fits (turn (c .before .before .before .loop-test .taken) .read) 2 (lit< tt)
 
 mul-r-5 : tie.Need-mul-r-5 Inv-loop μ-loop
-mul-r-5 c = turn (c .before .before .before .loop-test .taken) .read .bytes-2
+mul-r-5 c = part-bytes (turn (c .before .before .before .loop-test .taken) .read) 2 (lit< tt)
 
 element-copy-out-r-3 : tie.Need-element-copy-out-r-3 Inv-loop μ-loop
-element-copy-out-r-3 c = turn (c .before .before .before .loop-test .taken) .read .in-2
+element-copy-out-r-3 c = part-in (turn (c .before .before .before .loop-test .taken) .read) 2 (lit< tt)
 
 add-r-6 : tie.Need-add-r-6 Inv-loop μ-loop
 add-r-6 c = let a = c .before .before .before .before .before .before in pair-fits (a .args .codes .now) (a .pre) _ _
 
 add-r-7 : tie.Need-add-r-7 Inv-loop μ-loop
-add-r-7 c = turn (c .before .before .before .before .loop-test .taken) .written .fits-2
+add-r-7 c = part-fits (turn (c .before .before .before .before .loop-test .taken) .written) 2 (lit< tt)
 
 mul-r-6 : tie.Need-mul-r-6 Inv-loop μ-loop
-mul-r-6 c = turn (c .before .before .before .before .loop-test .taken) .written .bytes-2
+mul-r-6 c = part-bytes (turn (c .before .before .before .before .loop-test .taken) .written) 2 (lit< tt)
 
 array-write-r-3 : tie.Need-array-write-r-3 Inv-loop μ-loop
-array-write-r-3 c = turn (c .before .before .before .before .loop-test .taken) .written .in-2
+array-write-r-3 c = part-in (turn (c .before .before .before .before .loop-test .taken) .written) 2 (lit< tt)
 
 add-r-8 : tie.Need-add-r-8 Inv-loop μ-loop
-add-r-8 c = turn (c .before .before .before .before .loop-test .taken) .read .fits-3
+add-r-8 c = part-fits (turn (c .before .before .before .before .loop-test .taken) .read) 3 (lit< tt)
 
 mul-r-7 : tie.Need-mul-r-7 Inv-loop μ-loop
-mul-r-7 c = turn (c .before .before .before .before .loop-test .taken) .read .bytes-3
+mul-r-7 c = part-bytes (turn (c .before .before .before .before .loop-test .taken) .read) 3 (lit< tt)
 
 element-copy-out-r-4 : tie.Need-element-copy-out-r-4 Inv-loop μ-loop
-element-copy-out-r-4 c = turn (c .before .before .before .before .loop-test .taken) .read .in-3
+element-copy-out-r-4 c = part-in (turn (c .before .before .before .before .loop-test .taken) .read) 3 (lit< tt)
 
 add-r-9 : tie.Need-add-r-9 Inv-loop μ-loop
 add-r-9 c = let a = c .before .before .before .before .before .before .before in pair-fits (a .args .codes .now) (a .pre) _ _
 
 add-r-10 : tie.Need-add-r-10 Inv-loop μ-loop
-add-r-10 c = turn (c .before .before .before .before .before .loop-test .taken) .written .fits-3
+add-r-10 c = part-fits (turn (c .before .before .before .before .before .loop-test .taken) .written) 3 (lit< tt)
 
 mul-r-8 : tie.Need-mul-r-8 Inv-loop μ-loop
-mul-r-8 c = turn (c .before .before .before .before .before .loop-test .taken) .written .bytes-3
+mul-r-8 c = part-bytes (turn (c .before .before .before .before .before .loop-test .taken) .written) 3 (lit< tt)
 
 array-write-r-4 : tie.Need-array-write-r-4 Inv-loop μ-loop
-array-write-r-4 c = turn (c .before .before .before .before .before .loop-test .taken) .written .in-3
+array-write-r-4 c = part-in (turn (c .before .before .before .before .before .loop-test .taken) .written) 3 (lit< tt)
 
 add-q : tie.Need-add-q Inv-loop μ-loop
-add-q c = omega arith
+add-q c = turn (c .before .before .before .before .before .loop-test .taken) .next
 
 loop-less : tie.Need-loop-less Inv-loop μ-loop
-loop-less c = omega arith
+loop-less c = turn (c .before .before .before .before .before .loop-test .taken) .less
 
 loop-again : tie.Need-loop-again Inv-loop μ-loop
 loop-again c =
     let l = c .before .before .before .before .before in
-    (omega arith, pair-four _+_ (l .loop-test .taken) (l .before .loop .inv .1) refl refl refl refl)
+    (turn (l .loop-test .taken) .up, pair-four _+_ (l .loop-test .taken) (l .before .loop .inv .1) refl refl refl refl)
 
 returns : tie.Need-returns Inv-loop μ-loop
 returns c = let e : c .before .loop .q ≡ 16 = omega arith in rw e at (c .before .loop .inv .1)
