@@ -10,8 +10,8 @@ use Rattle.soft.specs.declared.kinds.Soft.{Soft}
 use Rattle.soft.specs.Calls.{SoftRule}
 use Rattle.soft.proofs.Decided.{soft-once, soft-exists}
 use Rattle.lines.specs.Lines.{answerLine, longest}
-use Rattle.lines.specs.Buffers.{Writes}
-use Rattle.lines.proofs.Decided.{writes-decided}
+use Rattle.texts.specs.Buffers.{Writes}
+use Rattle.texts.proofs.Decided.{writes-decided}
 use Rattle.answers.specs.Decoding.{messageAndReserve, Decoder, Tells}
 
 pub a-decoder : (decode : List ℤ → Answer (ℕ × ℕ)) × Decoder decode

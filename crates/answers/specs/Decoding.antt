@@ -8,7 +8,7 @@ use Rattle.golay.specs.Answers.{Answer, accepted, refused}
 use Rattle.soft.specs.declared.kinds.Soft.{Soft}
 use Rattle.soft.specs.Calls.{SoftRule}
 use Rattle.lines.specs.Lines.{answerLine, longest}
-use Rattle.lines.specs.Buffers.{Writes}
+use Rattle.texts.specs.Buffers.{Writes}
 
 -- Rules 13.3 and 13.4: message and reserve, or the number. A reserve is 1 or more (7.3), so its size is the number itself.
 abbrev pub messageAndReserve : Answer Soft → Answer (ℕ × ℕ)

@@ -1,22 +1,13 @@
--- How long a line is: the sum of its parts, and never more than the longest.
+-- How long a line is: never more than the longest.
 -- Assumes nothing.
-use mathlib.Core.Path.{_≡_}
-use mathlib.Core.List.{List}
-use Prim.Native.Nat.{ℕ, _+_, _^_, _≤_, _<_}
+use Prim.Native.Nat.{ℕ, _^_, _≤_, _<_}
 use native.Mathlib.Nat.{lt-of-lt-of-le}
 use native.Mathlib.Omega.{arith}
 use lib.Dec.{lit≤}
 use lib.ListN.{length, length-append}
-use Rattle.lines.specs.Lines.{decimal, header, lineOf, lineOfTwo, acceptedLine, refusedLine, stoppedLine, longest}
-use Rattle.lines.proofs.Decimal.{decimal-length}
-
-pub length-one : (word : List ℕ) (n : ℕ) → length (lineOf word n) ≡ length word + length (decimal n) + 1
-length-one word n = simp length-append
-
-pub length-two :
-    (word : List ℕ) (m : ℕ) (between : List ℕ) (n : ℕ)
-    → length (lineOfTwo word m between n) ≡ length word + length (decimal m) + length between + length (decimal n) + 1
-length-two word m between n = simp length-append
+use Rattle.texts.specs.Texts.{decimal}
+use Rattle.texts.proofs.Decimal.{decimal-length}
+use Rattle.lines.specs.Lines.{header, acceptedLine, refusedLine, stoppedLine, longest}
 
 -- a number of a width in bits, by its digits
 below : (bits w n : ℕ) → 1 ≤ w → 2 ^ bits ≤ 10 ^ w → n < 2 ^ bits → length (decimal n) ≤ w

@@ -1,4 +1,1 @@
-pub mod Buffers
-pub mod Decimal
 pub mod Lengths
-pub mod Decided

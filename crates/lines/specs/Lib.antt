@@ -1,3 +1,1 @@
-pub mod Ascii
 pub mod Lines
-pub mod Buffers

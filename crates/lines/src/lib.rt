@@ -1,87 +1,19 @@
 // The text of each line of output, put into a lent buffer at a place. A line that does not fit is not begun: no byte of the buffer
 // changes, and the answer is the place itself.
-ghost use mathlib.Core.Path.{_≡_};
-ghost use Prim.Native.Nat.{_+_, _-_, _≤_};
-ghost use lib.ListN.{length, take};
-ghost use Rattle.io.specs.Counts.{Counts};
-ghost use Rattle.lines.specs.Lines.{decimal, header, lineOf, lineOfTwo, acceptedLine, refusedLine, stoppedLine};
-ghost use Rattle.lines.specs.Buffers.{Puts, Writes};
+ghost use Rattle.lines.specs.Lines.{header, acceptedLine, refusedLine, stoppedLine};
+ghost use Rattle.texts.specs.Buffers.{Writes};
+use texts::write_one;
+use texts::write_text;
+use texts::write_two;
 
 // The most bytes that a line takes.
 pub const LONGEST: usize = 36;
-
-// How many bytes a buffer of a length has from a place on.
-fn room(length: usize, at: usize) -> usize
-    ensures { λ r. ⌜ r ≡ length - at ⌝ }
-{
-    if length < at { 0 } else { length - at }
-}
-
-// Copies a text that fits, and answers the place after it.
-fn copy(text: &[u8], out: &mut [u8], at: usize) -> usize
-    requires { ⌜ at + length (now text) ≤ length (now out) ⌝ }
-    ensures { λ r. ⌜ Puts (now (text .entry)) (now (out .entry)) at (now (out .exit)) r ⌝ }
-{
-    let mut i = 0;
-    while i < text.len() {
-        out[at + i] = text[i];
-        i += 1;
-    }
-    at + text.len()
-}
-
-// Puts a number's decimal digits at the start of an array, and answers how many there are.
-fn spell(n: u64, digits: &mut [u8; 20]) -> usize
-    ensures { λ r. ⌜ Counts r (now (digits .exit)) ⌝ }
-    ensures { λ r. ⌜ r ≤ 20 ⌝ }
-    ensures { λ r. ⌜ take r (now (digits .exit)) ≡ decimal n ⌝ }
-{
-    io::decimal(n, digits)
-}
-
-// A word, a number and a line feed.
-fn write_one(word: &[u8], n: u64, out: &mut [u8], at: usize) -> usize
-    requires { ⌜ length (now word) ≤ 8 ⌝ }
-    ensures { λ r. ⌜ Writes (lineOf (now (word .entry)) n) (now (out .entry)) at (now (out .exit)) r ⌝ }
-{
-    let mut digits = [0u8; 20];
-    let k = spell(n, &mut digits);
-    if room(out.len(), at) < word.len() + k + 1 {
-        return at;
-    }
-    let p = copy(word, out, at);
-    let q = copy(&digits[..k], out, p);
-    copy(b"\n", out, q)
-}
-
-// A word, a number, a word, a number and a line feed.
-fn write_two(word: &[u8], m: u64, between: &[u8], n: u64, out: &mut [u8], at: usize) -> usize
-    requires { ⌜ length (now word) ≤ 8 ⌝ }
-    requires { ⌜ length (now between) ≤ 8 ⌝ }
-    ensures { λ r. ⌜ Writes (lineOfTwo (now (word .entry)) m (now (between .entry)) n) (now (out .entry)) at (now (out .exit)) r ⌝ }
-{
-    let mut first = [0u8; 20];
-    let mut second = [0u8; 20];
-    let j = spell(m, &mut first);
-    let k = spell(n, &mut second);
-    if room(out.len(), at) < word.len() + j + between.len() + k + 1 {
-        return at;
-    }
-    let p = copy(word, out, at);
-    let q = copy(&first[..j], out, p);
-    let r = copy(between, out, q);
-    let s = copy(&second[..k], out, r);
-    copy(b"\n", out, s)
-}
 
 // "message reserve" (rule 13.2).
 pub fn write_header(out: &mut [u8], at: usize) -> usize
     ensures { λ r. ⌜ Writes header (now (out .entry)) at (now (out .exit)) r ⌝ }
 {
-    if room(out.len(), at) < 16 {
-        return at;
-    }
-    copy(b"message reserve\n", out, at)
+    write_text(b"message reserve\n", out, at)
 }
 
 // As in "0 8" (rule 13.3).

@@ -9,7 +9,7 @@ use lib.ListN.{replicate}
 use Rattle.code.specs.Code.{positions}
 use Rattle.golay.specs.Answers.{Answer, accepted, refused}
 use Rattle.records.specs.Records.{twosComplement, confidencesOf, standing}
-use Rattle.lines.specs.Lines.{decimal}
+use Rattle.texts.specs.Texts.{decimal}
 use Rattle.records.specs.Capture.{runIn, output}
 use Rattle.records.specs.Cases.{capture, captureText}
 

@@ -2,7 +2,7 @@
 use mathlib.Core.List.{List, [], _∷_, _++_}
 use Prim.Native.Nat.{ℕ, zero, suc}
 use Rattle.code.specs.Code.{positions}
-use Rattle.lines.specs.Ascii.{ascii}
+use Rattle.texts.specs.Ascii.{ascii}
 
 -- n confidences of one value, 0 to 255, as bytes
 abbrev pub repeated : ℕ → ℕ → List ℕ

@@ -14,8 +14,8 @@ use Rattle.golay.specs.Answers.{Answer}
 use Rattle.records.specs.Records.{recordLength}
 use Rattle.records.specs.Capture.{stopsFrom, linesFrom}
 use Rattle.records.proofs.Texts.{lines-piece}
-use Rattle.lines.specs.Buffers.{put}
-use Rattle.lines.proofs.Buffers.{take-put}
+use Rattle.texts.specs.Buffers.{put}
+use Rattle.texts.proofs.Buffers.{take-put}
 use Rattle.run.specs.declared.kinds.Outcome.{Outcome}
 use Rattle.run.specs.declared.kinds.Turned.{Turned}
 use Rattle.run.specs.Pieces.{wholes, allPieces, turnsFrom}

@@ -12,9 +12,9 @@ use lib.ListN.{length, drop}
 use Rattle.golay.specs.Answers.{Answer}
 use Rattle.records.specs.Records.{recordLength, Standing, ended, stopped, whole, standsAt, nextFrom, readingOf}
 use Rattle.lines.specs.Lines.{answerLine, stoppedLine, longest}
-use Rattle.lines.specs.Buffers.{put, Puts, Writes}
+use Rattle.texts.specs.Buffers.{put, Puts, Writes}
 use Rattle.records.specs.Capture.{stopping, stopsFrom, lines, linesFrom}
-use Rattle.lines.proofs.Buffers.{puts-then, puts-text, writes-puts}
+use Rattle.texts.proofs.Buffers.{puts-then, puts-text, writes-puts}
 use Rattle.lines.proofs.Lengths.{stopped-short}
 use Rattle.records.proofs.Standing.{whole-room, next-whole}
 use Rattle.records.proofs.Texts.{step-ended, step-stopped, step-whole}

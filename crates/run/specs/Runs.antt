@@ -8,7 +8,7 @@ use lib.ListN.{length, take, drop}
 use Rattle.golay.specs.Answers.{Answer}
 use Rattle.records.specs.Records.{recordLength}
 use Rattle.lines.specs.Lines.{longest}
-use Rattle.lines.specs.Buffers.{put, Puts}
+use Rattle.texts.specs.Buffers.{put, Puts}
 use Rattle.records.specs.Capture.{stopsFrom, linesFrom}
 use Rattle.answers.specs.Decoding.{Decoder}
 use Rattle.run.specs.Pieces.{wholes}

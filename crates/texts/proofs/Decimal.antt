@@ -9,7 +9,7 @@ use lib.Dec.{ltb, leb, lit<, lit≤}
 use lib.ListN.{length, length-append}
 use borrow.Author.Tests.{ltb-true, ltb-false, leb-true, leb-false}
 use Rattle.io.specs.Digits.{digits, Fewest}
-use Rattle.lines.specs.Lines.{placesIn, decimal}
+use Rattle.texts.specs.Texts.{placesIn, decimal}
 
 -- a number of one digit
 fewest-one : (n : ℕ) → n < 10 → Fewest 10 1 n 1

@@ -1,14 +1,14 @@
--- `lines::write_two` meets its contract: once the line has room, each of its five pieces is put after the last.
+-- `texts::write_two` meets its contract: once the line has room, each of its five pieces is put after the last.
 -- Assumes nothing.
 use mathlib.Core.Path.{ap}
 use native.Mathlib.Omega.{arith}
 use borrow.Author.Needs.{needs}
 use lib.ListN.{length}
-use Rattle.lines.specs.Lines.{lineOfTwo}
-use Rattle.lines.proofs.Buffers.{puts-then, puts-text, puts-writes, no-room}
-use Rattle.lines.proofs.Lengths.{length-two}
-use Rattle.lines.proofs.write_two.Statement.{statement}
-use Rattle.lines.proofs.write_two.Tie as tie
+use Rattle.texts.specs.Texts.{lineOfTwo}
+use Rattle.texts.proofs.Buffers.{puts-then, puts-text, puts-writes, no-room}
+use Rattle.texts.proofs.Lengths.{length-two}
+use Rattle.texts.proofs.write_two.Statement.{statement}
+use Rattle.texts.proofs.write_two.Tie as tie
 
 spell-requires : tie.Need-spell-requires
 spell-requires c κs = search needs

@@ -3,7 +3,7 @@
 use mathlib.Core.Path.{_≡_, sym, _∙_}
 use mathlib.Core.List.{List}
 use Prim.Native.Nat.{ℕ}
-use Rattle.lines.specs.Buffers.{Writes}
+use Rattle.texts.specs.Buffers.{Writes}
 
 pub writes-decided :
     {text before after later : List ℕ} {at next other : ℕ}

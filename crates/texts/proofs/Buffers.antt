@@ -7,7 +7,7 @@ use native.Mathlib.Omega.{arith}
 use lib.ListN.{length, take, drop, length-append, length-drop}
 use lib.Seq.{paste, take-length, take-at, drop-at, drop-drop, length-take-le}
 use borrow.Author.Tests.{le-leb, lt-leb}
-use Rattle.lines.specs.Buffers.{put, Puts, Writes}
+use Rattle.texts.specs.Buffers.{put, Puts, Writes}
 
 -- the copy of all bytes of a text
 pub paste-put : (text buffer : List ℕ) (at : ℕ) → paste buffer at text (length text) ≡ put text buffer at

@@ -1,4 +1,4 @@
--- `lines::copy` meets its contract. The invariant: the first i bytes of the text stand in the buffer, which is as long as it was.
+-- `texts::copy` meets its contract. The invariant: the first i bytes of the text stand in the buffer, which is as long as it was.
 -- Assumes nothing.
 use mathlib.Core.Path.{_≡_, refl, sym, ap, _∙_}
 use mathlib.Core.List.{List}
@@ -8,9 +8,9 @@ use native.Mathlib.Omega.{arith}
 use borrow.Author.Needs.{needs}
 use lib.ListN.{length, getD, set, length-set}
 use lib.Seq.{paste, paste-zero, paste-suc}
-use Rattle.lines.proofs.Buffers.{paste-put}
-use Rattle.lines.proofs.copy.Statement.{statement}
-use Rattle.lines.proofs.copy.Tie as tie
+use Rattle.texts.proofs.Buffers.{paste-put}
+use Rattle.texts.proofs.copy.Statement.{statement}
+use Rattle.texts.proofs.copy.Tie as tie
 
 abbrev Inv-loop : tie.InvT-loop
 Inv-loop text out₀ at i₀ out i = (i ≤ length text) × (out ≡ paste out₀ at text i) × (length out ≡ length out₀)

@@ -1,0 +1,4 @@
+pub mod Buffers
+pub mod Decimal
+pub mod Lengths
+pub mod Decided

@@ -1,0 +1,85 @@
+// Texts put into a lent buffer at a place: a text as it is, and lines of words and numbers. What does not fit is not begun: no byte of the
+// buffer changes, and the answer is the place itself.
+ghost use mathlib.Core.Path.{_≡_};
+ghost use Prim.Native.Nat.{_+_, _-_, _≤_};
+ghost use lib.ListN.{length, take};
+ghost use Rattle.io.specs.Counts.{Counts};
+ghost use Rattle.texts.specs.Texts.{decimal, lineOf, lineOfTwo};
+ghost use Rattle.texts.specs.Buffers.{Puts, Writes};
+
+// How many bytes a buffer of a length has from a place on.
+fn room(length: usize, at: usize) -> usize
+    ensures { λ r. ⌜ r ≡ length - at ⌝ }
+{
+    if length < at { 0 } else { length - at }
+}
+
+// Copies a text that fits, and answers the place after it.
+fn copy(text: &[u8], out: &mut [u8], at: usize) -> usize
+    requires { ⌜ at + length (now text) ≤ length (now out) ⌝ }
+    ensures { λ r. ⌜ Puts (now (text .entry)) (now (out .entry)) at (now (out .exit)) r ⌝ }
+{
+    let mut i = 0;
+    while i < text.len() {
+        out[at + i] = text[i];
+        i += 1;
+    }
+    at + text.len()
+}
+
+// Puts a number's decimal digits at the start of an array, and answers how many there are.
+fn spell(n: u64, digits: &mut [u8; 20]) -> usize
+    ensures { λ r. ⌜ Counts r (now (digits .exit)) ⌝ }
+    ensures { λ r. ⌜ r ≤ 20 ⌝ }
+    ensures { λ r. ⌜ take r (now (digits .exit)) ≡ decimal n ⌝ }
+{
+    io::decimal(n, digits)
+}
+
+// A text as it is.
+pub fn write_text(text: &[u8], out: &mut [u8], at: usize) -> usize
+    ensures { λ r. ⌜ Writes (now (text .entry)) (now (out .entry)) at (now (out .exit)) r ⌝ }
+{
+    if out.len() < at {
+        return at;
+    }
+    if out.len() - at < text.len() {
+        return at;
+    }
+    copy(text, out, at)
+}
+
+// A word, a number and a line feed.
+pub fn write_one(word: &[u8], n: u64, out: &mut [u8], at: usize) -> usize
+    requires { ⌜ length (now word) ≤ 8 ⌝ }
+    ensures { λ r. ⌜ Writes (lineOf (now (word .entry)) n) (now (out .entry)) at (now (out .exit)) r ⌝ }
+{
+    let mut digits = [0u8; 20];
+    let k = spell(n, &mut digits);
+    if room(out.len(), at) < word.len() + k + 1 {
+        return at;
+    }
+    let p = copy(word, out, at);
+    let q = copy(&digits[..k], out, p);
+    copy(b"\n", out, q)
+}
+
+// A word, a number, a word, a number and a line feed.
+pub fn write_two(word: &[u8], m: u64, between: &[u8], n: u64, out: &mut [u8], at: usize) -> usize
+    requires { ⌜ length (now word) ≤ 8 ⌝ }
+    requires { ⌜ length (now between) ≤ 8 ⌝ }
+    ensures { λ r. ⌜ Writes (lineOfTwo (now (word .entry)) m (now (between .entry)) n) (now (out .entry)) at (now (out .exit)) r ⌝ }
+{
+    let mut first = [0u8; 20];
+    let mut second = [0u8; 20];
+    let j = spell(m, &mut first);
+    let k = spell(n, &mut second);
+    if room(out.len(), at) < word.len() + j + between.len() + k + 1 {
+        return at;
+    }
+    let p = copy(word, out, at);
+    let q = copy(&first[..j], out, p);
+    let r = copy(between, out, q);
+    let s = copy(&second[..k], out, r);
+    copy(b"\n", out, s)
+}
