@@ -139,6 +139,7 @@ module _ {q : ℕ} (h : q < 32) (k : ℕ) (four : k < 4) where
 
 -- the places of their first two columns can be reached
 pub record Firsts (q : ℕ) : Type 0 where
+  pub known : q < 32
   pub wide : Fits w64 q
   pub x : Part (q / 4) 1 48
   pub half : Fits w64 (q / 16 * 4)
@@ -151,6 +152,7 @@ pub record Firsts (q : ℕ) : Type 0 where
 
 pub firsts : {q : ℕ} → q < 32 → Firsts q
 firsts h = record {
+  known = h;
   wide = omega arith;
   x = record { ends = omega arith; short = lit≤ tt };
   half = omega arith;

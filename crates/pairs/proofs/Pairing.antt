@@ -32,6 +32,7 @@ module _ (q : ℕ) where
 
 -- the places of a turn can be reached
 pub record Turn (q : ℕ) : Type 0 where
+  pub known : q < 16
   pub half : Fits w64 (q / 8 * 16)
   pub from-third : Fits w64 (16 + q / 8 * 16)
   pub from-fourth : Fits w64 (24 + q / 8 * 16)
@@ -45,6 +46,7 @@ pub record Turn (q : ℕ) : Type 0 where
 
 pub turn : {q : ℕ} → q < 16 → Turn q
 turn h = record {
+  known = h;
   half = omega arith;
   from-third = omega arith;
   from-fourth = omega arith;

@@ -34,85 +34,85 @@ sub-sums : tie.Need-sub-sums
 sub-sums c = diff-fits (upper c .sum) (lower c .sum) (lit< tt)
 
 add-sums-2 : tie.Need-add-sums-2
-add-sums-2 c = part-fits (places c) 1 (lit< tt)
+add-sums-2 c = part-fits (places c) _ (lit< tt)
 
 mul-sums-2 : tie.Need-mul-sums-2
-mul-sums-2 c = part-bytes (places c) 1 (lit< tt)
+mul-sums-2 c = part-bytes (places c) _ (lit< tt)
 
 element-set-from-sums-2 : tie.Need-element-set-from-sums-2
-element-set-from-sums-2 c = part-in (places c) 1 (lit< tt)
+element-set-from-sums-2 c = part-in (places c) _ (lit< tt)
 
 add-sums-3 : tie.Need-add-sums-3
 add-sums-3 c = sum-fits (upper c .difference) (lower c .difference) (lit< tt)
 
 add-sums-4 : tie.Need-add-sums-4
-add-sums-4 c = part-fits (places c) 2 (lit< tt)
+add-sums-4 c = part-fits (places c) _ (lit< tt)
 
 mul-sums-3 : tie.Need-mul-sums-3
-mul-sums-3 c = part-bytes (places c) 2 (lit< tt)
+mul-sums-3 c = part-bytes (places c) _ (lit< tt)
 
 element-set-from-sums-3 : tie.Need-element-set-from-sums-3
-element-set-from-sums-3 c = part-in (places c) 2 (lit< tt)
+element-set-from-sums-3 c = part-in (places c) _ (lit< tt)
 
 sub-sums-2 : tie.Need-sub-sums-2
 sub-sums-2 c = diff-fits (upper c .difference) (lower c .difference) (lit< tt)
 
 add-sums-5 : tie.Need-add-sums-5
-add-sums-5 c = part-fits (places c) 3 (lit< tt)
+add-sums-5 c = part-fits (places c) _ (lit< tt)
 
 mul-sums-4 : tie.Need-mul-sums-4
-mul-sums-4 c = part-bytes (places c) 3 (lit< tt)
+mul-sums-4 c = part-bytes (places c) _ (lit< tt)
 
 element-set-from-sums-4 : tie.Need-element-set-from-sums-4
-element-set-from-sums-4 c = part-in (places c) 3 (lit< tt)
+element-set-from-sums-4 c = part-in (places c) _ (lit< tt)
 
 sub-sums-3 : tie.Need-sub-sums-3
 sub-sums-3 c = diff-fits (upper c .difference) (lower c .sum) (lit< tt)
 
 add-sums-6 : tie.Need-add-sums-6
-add-sums-6 c = part-fits (places c) 4 (lit< tt)
+add-sums-6 c = part-fits (places c) _ (lit< tt)
 
 mul-sums-5 : tie.Need-mul-sums-5
-mul-sums-5 c = part-bytes (places c) 4 (lit< tt)
+mul-sums-5 c = part-bytes (places c) _ (lit< tt)
 
 element-set-from-sums-5 : tie.Need-element-set-from-sums-5
-element-set-from-sums-5 c = part-in (places c) 4 (lit< tt)
+element-set-from-sums-5 c = part-in (places c) _ (lit< tt)
 
 add-sums-7 : tie.Need-add-sums-7
 add-sums-7 c = sum-fits (upper c .difference) (lower c .sum) (lit< tt)
 
 add-sums-8 : tie.Need-add-sums-8
-add-sums-8 c = part-fits (places c) 5 (lit< tt)
+add-sums-8 c = part-fits (places c) _ (lit< tt)
 
 mul-sums-6 : tie.Need-mul-sums-6
-mul-sums-6 c = part-bytes (places c) 5 (lit< tt)
+mul-sums-6 c = part-bytes (places c) _ (lit< tt)
 
 element-set-from-sums-6 : tie.Need-element-set-from-sums-6
-element-set-from-sums-6 c = part-in (places c) 5 (lit< tt)
+element-set-from-sums-6 c = part-in (places c) _ (lit< tt)
 
 sub-sums-4 : tie.Need-sub-sums-4
 sub-sums-4 c = diff-fits (upper c .sum) (lower c .difference) (lit< tt)
 
 add-sums-9 : tie.Need-add-sums-9
-add-sums-9 c = part-fits (places c) 6 (lit< tt)
+add-sums-9 c = part-fits (places c) _ (lit< tt)
 
 mul-sums-7 : tie.Need-mul-sums-7
-mul-sums-7 c = part-bytes (places c) 6 (lit< tt)
+mul-sums-7 c = part-bytes (places c) _ (lit< tt)
 
 element-set-from-sums-7 : tie.Need-element-set-from-sums-7
-element-set-from-sums-7 c = part-in (places c) 6 (lit< tt)
+element-set-from-sums-7 c = part-in (places c) _ (lit< tt)
 
 add-sums-10 : tie.Need-add-sums-10
 add-sums-10 c = sum-fits (upper c .sum) (lower c .difference) (lit< tt)
 
 add-t11 : tie.Need-add-t11
-add-t11 c = part-fits (places c) 7 (lit< tt)
+add-t11 c = part-fits (places c) _ (lit< tt)
 
 mul-t14 : tie.Need-mul-t14
-mul-t14 c = part-bytes (places c) 7 (lit< tt)
+mul-t14 c = part-bytes (places c) _ (lit< tt)
 
 element-set-from-sums-8 : tie.Need-element-set-from-sums-8
-element-set-from-sums-8 c = part-in (places c) 7 (lit< tt)
+element-set-from-sums-8 c = part-in (places c) _ (lit< tt)
 
 returns : tie.Need-returns
 returns c xs long U L S =

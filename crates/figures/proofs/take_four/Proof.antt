@@ -19,37 +19,37 @@ take-requires : tie.Need-take-requires
 take-requires c κs = search needs
 
 add-figure : tie.Need-add-figure
-add-figure c = class-wide (c .before .before .pre .0 .0) 1 (lit< tt)
+add-figure c = class-wide (c .before .before .pre .0 .0) _ (lit< tt)
 
 figure-requires-2 : tie.Need-figure-requires-2
-figure-requires-2 c κs = let q = c .before .before .pre in ((class-known (q .0 .0) 1 (lit< tt), q .0 .1), q .1)
+figure-requires-2 c κs = let q = c .before .before .pre in ((class-known (q .0 .0) _ (lit< tt), q .0 .1), q .1)
 
 add-take : tie.Need-add-take
-add-take c = class-fits (c .before .before .before .pre .0 .0) 1 (lit< tt)
+add-take c = class-fits (c .before .before .before .pre .0 .0) _ (lit< tt)
 
 take-requires-2 : tie.Need-take-requires-2
 take-requires-2 c κs = search needs
 
 add-figure-2 : tie.Need-add-figure-2
-add-figure-2 c = class-wide (c .before .before .before .before .pre .0 .0) 2 (lit< tt)
+add-figure-2 c = class-wide (c .before .before .before .before .pre .0 .0) _ (lit< tt)
 
 figure-requires-3 : tie.Need-figure-requires-3
-figure-requires-3 c κs = let q = c .before .before .before .before .pre in ((class-known (q .0 .0) 2 (lit< tt), q .0 .1), q .1)
+figure-requires-3 c κs = let q = c .before .before .before .before .pre in ((class-known (q .0 .0) _ (lit< tt), q .0 .1), q .1)
 
 add-take-2 : tie.Need-add-take-2
-add-take-2 c = class-fits (c .before .before .before .before .before .pre .0 .0) 2 (lit< tt)
+add-take-2 c = class-fits (c .before .before .before .before .before .pre .0 .0) _ (lit< tt)
 
 take-requires-3 : tie.Need-take-requires-3
 take-requires-3 c κs = search needs
 
 add-figure-3 : tie.Need-add-figure-3
-add-figure-3 c = class-wide (c .before .before .before .before .before .before .pre .0 .0) 3 (lit< tt)
+add-figure-3 c = class-wide (c .before .before .before .before .before .before .pre .0 .0) _ (lit< tt)
 
 figure-requires-4 : tie.Need-figure-requires-4
-figure-requires-4 c κs = let q = c .before .before .before .before .before .before .pre in ((class-known (q .0 .0) 3 (lit< tt), q .0 .1), q .1)
+figure-requires-4 c κs = let q = c .before .before .before .before .before .before .pre in ((class-known (q .0 .0) _ (lit< tt), q .0 .1), q .1)
 
 add-take-3 : tie.Need-add-take-3
-add-take-3 c = class-fits (c .before .before .before .before .before .before .before .pre .0 .0) 3 (lit< tt)
+add-take-3 c = class-fits (c .before .before .before .before .before .before .before .pre .0 .0) _ (lit< tt)
 
 take-requires-4 : tie.Need-take-requires-4
 take-requires-4 c κs = search needs
