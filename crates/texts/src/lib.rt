@@ -1,11 +1,16 @@
 // Texts put into a lent buffer at a place: a text as it is, and lines of words and numbers. What does not fit is not begun: no byte of the
 // buffer changes, and the answer is the place itself.
 ghost use mathlib.Core.Path.{_≡_};
-ghost use Prim.Native.Nat.{_+_, _-_, _≤_};
+ghost use mathlib.Core.List.{_++_};
+ghost use Prim.Native.Nat.{_+_, _-_, _≤_, _<_, _^_};
+ghost use lib.Dec.{ltb};
 ghost use lib.ListN.{length, take};
 ghost use Rattle.io.specs.Counts.{Counts};
 ghost use Rattle.texts.specs.Texts.{decimal, lineOf, lineOfTwo};
 ghost use Rattle.texts.specs.Buffers.{Puts, Writes};
+
+// No slice has more bytes.
+const LARGEST: usize = 0x7FFF_FFFF_FFFF_FFFF;
 
 // How many bytes a buffer of a length has from a place on.
 fn room(length: usize, at: usize) -> usize
@@ -27,6 +32,15 @@ fn copy(text: &[u8], out: &mut [u8], at: usize) -> usize
     at + text.len()
 }
 
+// Copies two texts that fit, one after the other, and answers the place after both.
+fn copy_both(first: &[u8], second: &[u8], out: &mut [u8], at: usize) -> usize
+    requires { ⌜ at + length (now first) + length (now second) ≤ length (now out) ⌝ }
+    ensures { λ r. ⌜ Puts (now (first .entry) ++ now (second .entry)) (now (out .entry)) at (now (out .exit)) r ⌝ }
+{
+    let p = copy(first, out, at);
+    copy(second, out, p)
+}
+
 // Puts a number's decimal digits at the start of an array, and answers how many there are.
 fn spell(n: u64, digits: &mut [u8; 20]) -> usize
     ensures { λ r. ⌜ Counts r (now (digits .exit)) ⌝ }
@@ -34,6 +48,19 @@ fn spell(n: u64, digits: &mut [u8; 20]) -> usize
     ensures { λ r. ⌜ take r (now (digits .exit)) ≡ decimal n ⌝ }
 {
     io::decimal(n, digits)
+}
+
+// Whether a line goes beyond a buffer of a length: so many bytes of words, so many digits, and a line feed. Words that are longer than any
+// buffer do, and of others no sum overflows.
+fn exceeds(words: usize, digits: usize, length: usize, at: usize) -> bool
+    requires { ⌜ digits ≤ 40 ⌝ }
+    requires { ⌜ length < 2 ^ 63 ⌝ }
+    ensures { λ r. ⌜ r ≡ ltb length (at + (words + digits + 1)) ⌝ }
+{
+    if words > LARGEST {
+        return true;
+    }
+    room(length, at) < words + digits + 1
 }
 
 // A text as it is.
@@ -51,35 +78,29 @@ pub fn write_text(text: &[u8], out: &mut [u8], at: usize) -> usize
 
 // A word, a number and a line feed.
 pub fn write_one(word: &[u8], n: u64, out: &mut [u8], at: usize) -> usize
-    requires { ⌜ length (now word) ≤ 8 ⌝ }
     ensures { λ r. ⌜ Writes (lineOf (now (word .entry)) n) (now (out .entry)) at (now (out .exit)) r ⌝ }
 {
     let mut digits = [0u8; 20];
     let k = spell(n, &mut digits);
-    if room(out.len(), at) < word.len() + k + 1 {
+    if exceeds(word.len(), k, out.len(), at) {
         return at;
     }
-    let p = copy(word, out, at);
-    let q = copy(&digits[..k], out, p);
-    copy(b"\n", out, q)
+    let p = copy_both(word, &digits[..k], out, at);
+    copy(b"\n", out, p)
 }
 
 // A word, a number, a word, a number and a line feed.
 pub fn write_two(word: &[u8], m: u64, between: &[u8], n: u64, out: &mut [u8], at: usize) -> usize
-    requires { ⌜ length (now word) ≤ 8 ⌝ }
-    requires { ⌜ length (now between) ≤ 8 ⌝ }
     ensures { λ r. ⌜ Writes (lineOfTwo (now (word .entry)) m (now (between .entry)) n) (now (out .entry)) at (now (out .exit)) r ⌝ }
 {
     let mut first = [0u8; 20];
     let mut second = [0u8; 20];
     let j = spell(m, &mut first);
     let k = spell(n, &mut second);
-    if room(out.len(), at) < word.len() + j + between.len() + k + 1 {
+    if exceeds(word.len() + between.len(), j + k, out.len(), at) {
         return at;
     }
-    let p = copy(word, out, at);
-    let q = copy(&first[..j], out, p);
-    let r = copy(between, out, q);
-    let s = copy(&second[..k], out, r);
-    copy(b"\n", out, s)
+    let p = copy_both(word, &first[..j], out, at);
+    let q = copy_both(between, &second[..k], out, p);
+    copy(b"\n", out, q)
 }
