@@ -14,7 +14,8 @@ use Rattle.table.proofs.Entries.{table-pattern}
 use Rattle.patterns.proofs.Nearest.{pattern-itself}
 use Rattle.hard.specs.Calls.{correctRule, Corrects}
 use Rattle.reading.specs.Cases.{oneAgainst}
-use Rattle.quick.specs.Quick.{signWord, QuickRule}
+use Rattle.signs.specs.Signs.{signWord}
+use Rattle.quick.specs.Quick.{QuickRule}
 use Rattle.quick.proofs.Rules.{quick-decides, quick-once}
 
 -- position 1 alone is the pattern of its syndrome

@@ -1,4 +1,3 @@
-pub mod Turns
 pub mod Choosing
 pub mod Rules
 pub mod Cases

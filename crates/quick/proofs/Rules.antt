@@ -18,7 +18,8 @@ use Rattle.golay.specs.Calls.{wrongLength}
 use Rattle.reading.specs.Checks.{mostNegative}
 use Rattle.quick.specs.declared.kinds.QuickAnswer.{QuickAnswer}
 use Rattle.quick.specs.declared.kinds.QuickAnswer.the-variants as quick
-use Rattle.quick.specs.Quick.{quickAnswer, signWord, Cheapest, TwoCheapest, Chosen, alone, shared, Follows, Decides, QuickRule}
+use Rattle.signs.specs.Signs.{signWord}
+use Rattle.quick.specs.Quick.{quickAnswer, Cheapest, TwoCheapest, Chosen, alone, shared, Follows, Decides, QuickRule}
 
 module _ (xs : List ℤ) where
   pub quick-length : (length xs ≡ 24 → ⊥) → QuickRule xs (refused 1)

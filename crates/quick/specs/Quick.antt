@@ -1,13 +1,11 @@
 -- Rules 9.1 to 9.5: the quick decoder of source document 003, over hard correction.
 use mathlib.Core.Path.{_≡_}
 use mathlib.Core.Logic.{_≢_}
-use mathlib.Core.List.{List, [], _∷_}
-use Prim.Native.Nat.{ℕ, _+_, _*_, _/_, _%_, _^_, _≤_, _<_}
-use lib.IntN.{ℤ, pos, negℤ, natAbs}
-use lib.ListN.{length, getD}
+use mathlib.Core.List.{List}
+use Prim.Native.Nat.{ℕ, _≤_, _<_}
+use lib.IntN.{ℤ, pos, negℤ}
+use lib.ListN.{getD}
 use lib.Bits.{bitXor}
-use Rattle.signed.specs.Sign.{sign}
-use Rattle.contest.specs.Words.{one}
 use Rattle.code.specs.Code.{positions}
 use Rattle.golay.specs.declared.kinds.Refusal.the-variants.{WrongLength, MostNegative, Tied}
 use Rattle.golay.specs.Refusals.{number}
@@ -17,6 +15,7 @@ use Rattle.hard.specs.Candidates.{Candidate}
 use Rattle.hard.specs.Calls.{Corrects}
 use Rattle.golay.specs.Calls.{wrongLength}
 use Rattle.reading.specs.Checks.{mostNegative}
+use Rattle.signs.specs.Signs.{signWord, cost}
 use Rattle.quick.specs.declared.kinds.QuickAnswer.{QuickAnswer}
 use Rattle.quick.specs.declared.kinds.QuickAnswer.the-variants as quick
 
@@ -24,16 +23,6 @@ use Rattle.quick.specs.declared.kinds.QuickAnswer.the-variants as quick
 abbrev pub quickAnswer : QuickAnswer → Answer ℕ
 quickAnswer (quick.Accepted codeword) = accepted (codeword .0)
 quickAnswer (quick.Refused reason) = refused (number reason)
-
--- Rule 9.2: a 1 where the confidence is below zero, and a 0 everywhere else; position 1 counts most (1.2)
-unfoldable pub signWord : List ℤ → ℕ
-signWord [] = 0
-signWord (x ∷ xs) = one (sign x) * 2 ^ length xs + signWord xs
-
--- Rule 9.4: the sizes of the confidences at the ones of an error, added up
-unfoldable pub cost : ℕ → List ℤ → ℕ
-cost error [] = 0
-cost error (x ∷ xs) = error / 2 ^ length xs % 2 * natAbs x + cost error xs
 
 -- Rule 9.4: what a candidate costs, by the positions where it departs from the word
 abbrev pub costOf : ℕ → List ℤ → ℕ → ℕ

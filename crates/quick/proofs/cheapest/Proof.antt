@@ -10,17 +10,20 @@ use lib.ListN.{length}
 use denote.Ref.{now}
 use borrow.Author.Needs.{needs}
 use borrow.Author.Count.{below-more}
+use mir.Syntax.{w64}
+use mir.Val.{toZ, ofZ}
 use mathlib.Core.List.{[], _∷_}
 use Rattle.signed.specs.Within.{Within}
-use Rattle.signed.proofs.Locals.{fits, lowest}
+use Rattle.signed.proofs.Locals.{fits, lowest, reads}
 use Rattle.contest.specs.Kept.{Kept, seen, run}
 use Rattle.contest.proofs.KeptSpan.{kept-best}
 use Rattle.quick.specs.Quick.{merits}
-use Rattle.quick.proofs.Turns.{merit-read}
 use Rattle.quick.proofs.cheapest.Statement.{statement}
 use Rattle.quick.proofs.cheapest.Tie as tie
-use Rattle.quick.proofs.cheapest.Reads as reads
-use Rattle.quick.proofs.cheapest.Lts as lts
+
+-- a merit, as the next call reads it
+merit-read : {z x : ℤ} → (z ≡ x) × Within 51539607552 z → toZ w64 (ofZ w64 z) ≡ x
+merit-read w = reads (w .1) (lit< tt) ∙ w .0
 
 abbrev Inv-loop : tie.InvT-loop
 Inv-loop word slots reading kept₀ i₀ kept i =

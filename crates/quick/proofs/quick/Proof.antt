@@ -8,7 +8,10 @@ use borrow.Author.Needs.{needs}
 use Rattle.golay.specs.Answers.{accepted}
 use Rattle.hard.specs.Answers.{correctAnswer}
 use Rattle.hard.specs.Calls.{Corrects}
-use Rattle.quick.specs.Quick.{signWord, Chosen, Follows, quickAnswer}
+use Rattle.code.specs.Code.{positions}
+use Rattle.signs.specs.Signs.{signWord}
+use Rattle.signs.proofs.First.{first-whole}
+use Rattle.quick.specs.Quick.{Chosen, Follows, quickAnswer}
 use Rattle.quick.proofs.Choosing.{refused-four}
 use Rattle.quick.proofs.Rules.{quick-length, quick-negative, quick-decides}
 use Rattle.quick.proofs.quick.Statement.{statement}
@@ -52,9 +55,10 @@ returns-3 c =
     let signs = corrected .before in
     let checked = signs .before .before in
     let start = checked .before .before in
-    let w = signs .sign-word .ensures .0 in
     let xs = now (start .args .reading) in
-    quick-decides xs (checked .before .if1 .left) (sym (checked .most-negative .ensures .is) ∙ signs .before .if2 .left)
+    let l = checked .before .if1 .left in
+    let w = signs .sign-word .ensures .0 ∙ ap signWord (first-whole positions xs l) in
+    quick-decides xs l (sym (checked .most-negative .ensures .is) ∙ signs .before .if2 .left)
     (record {
       correction = correctAnswer (corrected .correct .result);
       corrects = subst (λ (x : ℕ). Corrects x (correctAnswer (corrected .correct .result))) w (corrected .correct .ensures);
@@ -68,9 +72,10 @@ returns-4 c =
     let signs = corrected .before in
     let checked = signs .before .before in
     let start = checked .before .before in
-    let w = signs .sign-word .ensures .0 in
     let xs = now (start .args .reading) in
-    quick-decides xs (checked .before .if1 .left) (sym (checked .most-negative .ensures .is) ∙ signs .before .if2 .left)
+    let l = checked .before .if1 .left in
+    let w = signs .sign-word .ensures .0 ∙ ap signWord (first-whole positions xs l) in
+    quick-decides xs l (sym (checked .most-negative .ensures .is) ∙ signs .before .if2 .left)
     (record {
       correction = correctAnswer (corrected .correct .result);
       corrects = subst (λ (x : ℕ). Corrects x (correctAnswer (corrected .correct .result))) w (corrected .correct .ensures);

@@ -16,15 +16,11 @@ use Rattle.signed.specs.Sign.{sign}
 use Rattle.signed.specs.Within.{Within}
 use Rattle.signed.proofs.Locals.{reads}
 use Rattle.contest.specs.Words.{one}
-use Rattle.quick.specs.Quick.{signWord, cost}
+use Rattle.signs.specs.Signs.{signWord, cost}
 
 -- a widened confidence, as the next call reads it
 pub wide-read : {z x : ℤ} → (z ≡ x) × Within 2147483648 z → toZ w64 (ofZ w64 z) ≡ x
 wide-read w = reads (w .1) (lit< tt) ∙ w .0
-
--- and a merit
-pub merit-read : {z x : ℤ} → (z ≡ x) × Within 51539607552 z → toZ w64 (ofZ w64 z) ≡ x
-merit-read w = reads (w .1) (lit< tt) ∙ w .0
 
 -- what is left after i, its first taken off
 left-cons : (xs : List ℤ) (i : ℕ) → i < length xs → drop i xs ≡ getD xs i (pos 0) ∷ drop (i + 1) xs

@@ -1,11 +1,12 @@
--- `quick::sign_word` meets its contract. The invariant: the bits so far in front of the word of the signs that are left are the whole.
+-- `signs::sign_word` meets its contract. The invariant: the bits so far in front of the word of the signs that are left are the whole.
 -- Assumes nothing.
 use mathlib.Core.Path.{_≡_, ap, sym, _∙_}
+use mathlib.Core.List.{List}
 use Prim.Native.Nat.{ℕ, _+_, _-_, _*_, _^_, _≤_, _<_}
 use native.Mathlib.Nat.{pow-suc}
 use native.Mathlib.Numerals.{add-one}
 use native.Mathlib.Omega.{arith}
-use lib.IntN.{pos}
+use lib.IntN.{ℤ, pos}
 use lib.ListN.{length, drop, getD}
 use lib.Pow.{pow-mono}
 use denote.Ref.{now}
@@ -13,14 +14,18 @@ use borrow.Author.Needs.{needs}
 use Rattle.signed.specs.Sign.{sign}
 use Rattle.contest.specs.Words.{one}
 use Rattle.contest.proofs.Numbers.{one-small}
-use Rattle.quick.specs.Quick.{signWord}
-use Rattle.quick.proofs.Turns.{sign-turn, sign-end}
-use Rattle.quick.proofs.sign_word.Statement.{statement}
-use Rattle.quick.proofs.sign_word.Tie as tie
+use Rattle.signs.specs.Signs.{signWord, firstOf}
+use Rattle.signs.proofs.First.{first-length, first-at}
+use Rattle.signs.proofs.Turns.{sign-turn, sign-end}
+use Rattle.signs.proofs.sign_word.Statement.{statement}
+use Rattle.signs.proofs.sign_word.Tie as tie
+
+abbrev first : List ℤ → List ℤ
+first = firstOf 24
 
 abbrev Inv-loop : tie.InvT-loop
 Inv-loop reading word₀ i₀ word i =
-    (i ≤ 24) × (word < 2 ^ i) × (word * 2 ^ (length reading - i) + signWord (drop i reading) ≡ signWord reading)
+    (i ≤ 24) × (word < 2 ^ i) × (word * 2 ^ (length (first reading) - i) + signWord (drop i (first reading)) ≡ signWord (first reading))
 
 abbrev μ-loop : tie.MeasureT-loop
 μ-loop reading word₀ i₀ word i = 24 - i
@@ -54,11 +59,11 @@ loop-less c = search needs
 loop-again : tie.Need-loop-again Inv-loop μ-loop
 loop-again c =
     let l = c .before .before .loop in
-    let start = c .before .before .before in
-    let xs = now (start .args .reading) in
+    let reading = now (c .before .before .before .args .reading) in
+    let xs = first reading in
     let b = one (sign (getD xs (l .i) (pos 0))) in
-    let e : c .sign-bit .result ≡ b = c .sign-bit .ensures in
-    let h : l .i < length xs = omega (arith, start .pre) in (
+    let e : c .sign-bit .result ≡ b = c .sign-bit .ensures ∙ ap (λ (x : ℤ). one (sign x)) (sym (first-at 24 reading (l .i) (omega arith))) in
+    let h : l .i < length xs = omega (arith, first-length 24 reading) in (
       omega arith,
       omega (arith, e, one-small (sign (getD xs (l .i) (pos 0))), ap (λ (k : ℕ). 2 ^ k) (add-one (l .i)), pow-suc 2 (l .i), l .inv .1),
       ap (λ (x : ℕ). (2 * l .word + x) * 2 ^ (length xs - (l .i + 1)) + signWord (drop (l .i + 1) xs)) e
@@ -68,10 +73,9 @@ loop-again c =
 returns : tie.Need-returns Inv-loop μ-loop
 returns c =
     let l = c .before .loop in
-    let start = c .before .before in
-    let xs = now (start .args .reading) in
+    let reading = now (c .before .before .args .reading) in
     let e : l .i ≡ 24 = omega arith in
-    (sign-end xs (l .word) (l .i) (e ∙ sym (start .pre)) ∙ l .inv .2, omega (arith, l .inv .1, ap (λ (k : ℕ). 2 ^ k) e))
+    (sign-end (first reading) (l .word) (l .i) (e ∙ sym (first-length 24 reading)) ∙ l .inv .2, omega (arith, l .inv .1, ap (λ (k : ℕ). 2 ^ k) e))
 
 pub sign-word-spec : {M : Type 1} → statement M
 sign-word-spec =

@@ -1,12 +1,12 @@
--- `quick::sign_bit` meets its contract.
+-- `signs::sign_bit` meets its contract.
 -- Assumes nothing.
 use mathlib.Core.Path.{ap, sym, _∙_}
 use borrow.Author.Needs.{needs}
-use Rattle.quick.proofs.Turns.{wide-read}
+use Rattle.signs.proofs.Turns.{wide-read}
 use Rattle.signed.specs.Sign.{sign}
 use Rattle.contest.specs.Words.{one}
-use Rattle.quick.proofs.sign_bit.Statement.{statement}
-use Rattle.quick.proofs.sign_bit.Tie as tie
+use Rattle.signs.proofs.sign_bit.Statement.{statement}
+use Rattle.signs.proofs.sign_bit.Tie as tie
 
 widened-requires : tie.Need-widened-requires
 widened-requires c κs = search needs

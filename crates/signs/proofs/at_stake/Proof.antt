@@ -1,4 +1,4 @@
--- `quick::at_stake` meets its contract.
+-- `signs::at_stake` meets its contract.
 -- Assumes nothing.
 use mathlib.Core.Path.{_≡_, ap, sym, _∙_}
 use Prim.Native.Nat.{ℕ, _*_, _/_, _%_, _-_, _^_}
@@ -8,9 +8,9 @@ use lib.IntN.{natAbs, pos}
 use lib.ListN.{getD}
 use denote.Ref.{now}
 use borrow.Author.Needs.{needs}
-use Rattle.quick.proofs.Turns.{wide-read}
-use Rattle.quick.proofs.at_stake.Statement.{statement}
-use Rattle.quick.proofs.at_stake.Tie as tie
+use Rattle.signs.proofs.Turns.{wide-read}
+use Rattle.signs.proofs.at_stake.Statement.{statement}
+use Rattle.signs.proofs.at_stake.Tie as tie
 
 sub-shift : tie.Need-sub-shift
 sub-shift c = search needs

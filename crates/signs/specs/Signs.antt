@@ -1,0 +1,23 @@
+-- Rules 9.2 and 9.4: the signs of a reading as a word, and what an error costs.
+use mathlib.Core.List.{List, [], _∷_}
+use Prim.Native.Nat.{ℕ, zero, suc, _+_, _*_, _/_, _%_, _^_}
+use lib.IntN.{ℤ, pos, natAbs}
+use lib.ListN.{length}
+use Rattle.signed.specs.Sign.{sign}
+use Rattle.contest.specs.Words.{one}
+
+-- Rule 9.2: a 1 where the confidence is below zero, and a 0 everywhere else; position 1 counts most (1.2)
+unfoldable pub signWord : List ℤ → ℕ
+signWord [] = 0
+signWord (x ∷ xs) = one (sign x) * 2 ^ length xs + signWord xs
+
+-- Rule 9.4: the sizes of the confidences at the ones of an error, added up
+unfoldable pub cost : ℕ → List ℤ → ℕ
+cost error [] = 0
+cost error (x ∷ xs) = error / 2 ^ length xs % 2 * natAbs x + cost error xs
+
+-- the first n confidences of a slice, and 0 for each that is missing; a slice of n is itself
+unfoldable pub firstOf : ℕ → List ℤ → List ℤ
+firstOf zero xs = []
+firstOf (suc n) [] = pos 0 ∷ firstOf n []
+firstOf (suc n) (x ∷ xs) = x ∷ firstOf n xs

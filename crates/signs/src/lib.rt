@@ -1,0 +1,65 @@
+// The signs of a reading as a word, and what an error costs by it (rules 9.2 and 9.4). Of a slice that is no reading, both take the first 24
+// confidences, and 0 for each that is missing.
+ghost use mathlib.Core.Path.{_≡_};
+ghost use Prim.Native.Nat.{_*_, _/_, _%_, _-_, _^_, _<_, _≤_};
+ghost use lib.IntN.{pos, natAbs};
+ghost use lib.ListN.{getD};
+ghost use Rattle.signed.specs.Sign.{sign};
+ghost use Rattle.contest.specs.Words.{one};
+ghost use Rattle.code.specs.Code.{positions, words};
+ghost use Rattle.signs.specs.Signs.{firstOf, signWord};
+ghost use Rattle.signs.specs.Signs as rule;
+use golay::POSITIONS;
+
+// How far the first position stands from the last.
+const LAST: usize = POSITIONS - 1;
+
+// 1 for a negative confidence.
+fn sign_bit(reading: &[i32], i: usize) -> u32
+    ensures { λ r. ⌜ r ≡ one (sign (getD (now (reading .entry)) i (pos 0))) ⌝ }
+{
+    if signed::negative(signed::widened(reading, i)) {
+        1
+    } else {
+        0
+    }
+}
+
+// The signs as a word, position 1 first.
+pub fn sign_word(reading: &[i32]) -> u32
+    ensures { λ r. ⌜ (r ≡ signWord (firstOf positions (now (reading .entry)))) × (r < words) ⌝ }
+{
+    let mut word: u32 = 0;
+    let mut i: usize = 0;
+    while i < POSITIONS {
+        word = 2 * word + sign_bit(reading, i);
+        i += 1;
+    }
+    word
+}
+
+// The size of the confidence at i where the error has a one there, else 0.
+fn at_stake(error: u32, reading: &[i32], i: usize) -> u64
+    requires { ⌜ i < positions ⌝ }
+    ensures { λ r. ⌜ (r ≡ error / 2 ^ (positions - 1 - i) % 2 * natAbs (getD (now (reading .entry)) i (pos 0))) × (r ≤ 2147483648) ⌝ }
+{
+    let shift = LAST - i;
+    if (error >> shift) % 2 == 1 {
+        signed::size(signed::widened(reading, i))
+    } else {
+        0
+    }
+}
+
+// What an error costs.
+pub fn cost(error: u32, reading: &[i32]) -> u64
+    ensures { λ r. ⌜ (r ≡ rule.cost error (firstOf positions (now (reading .entry)))) × (r ≤ 51539607552) ⌝ }
+{
+    let mut sum: u64 = 0;
+    let mut i: usize = 0;
+    while i < POSITIONS {
+        sum += at_stake(error, reading, i);
+        i += 1;
+    }
+    sum
+}
