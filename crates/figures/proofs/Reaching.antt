@@ -1,6 +1,6 @@
 -- What the promise of `largest_figures` says of a reading: a class's figure is the largest correlation of its words, and what is kept of the
 -- figures are the two largest.
-use mathlib.Core.Path.{_≡_, sym, subst}
+use mathlib.Core.Path.{_≡_, subst}
 use mathlib.Core.Bool.{Bool, true, false, cond}
 use mathlib.Core.List.{List, [], _∷_}
 use Prim.Native.Nat.{ℕ, _+_, _*_, _≤_, _<_}

@@ -1,6 +1,6 @@
 -- `figures::largest_of` meets its contract. The invariant: what is kept of the figures of the classes passed.
 use mathlib.Core.Path.{_≡_, refl}
-use Prim.Native.Nat.{_+_, _*_, _-_, _/_, _≤_}
+use Prim.Native.Nat.{_+_, _*_, _-_, _≤_}
 use native.Mathlib.Omega.{arith}
 use borrow.Author.Needs.{needs}
 use lib.Dec.{lit<}
@@ -16,6 +16,7 @@ Inv-loop codes sums leasts middle last t₀ q₀ t q = (q ≤ 32) × KeptUpTo (f
 abbrev μ-loop : tie.MeasureT-loop
 μ-loop codes sums leasts middle last t₀ q₀ t q = 32 - q
 
+-- the places of this turn
 here : (c : tie.In-loop Inv-loop μ-loop) → Firsts (c .before .loop .q)
 here c = firsts (omega arith)
 

@@ -9,9 +9,9 @@ use Rattle.signed.proofs.Locals.{lt-taken, lt-left}
 use Rattle.contest.specs.Largest.{Best}
 use Rattle.contest.proofs.Runs.{runs-next, runs-own}
 use Rattle.classes.specs.Classes.{classes}
+use Rattle.details.proofs.Sizing.{class-tops}
 use Rattle.figures.specs.Figures.{reachedFrom}
 use Rattle.figures.proofs.Reaching.{largest-two, class-largest}
-use Rattle.details.proofs.Sizing.{class-tops}
 use Rattle.soft.proofs.two_largest.Statement.{statement}
 use Rattle.soft.proofs.two_largest.Tie as tie
 
