@@ -2,4 +2,3 @@ pub mod Readings
 pub mod Standing
 pub mod Texts
 pub mod Decided
-pub mod Cases

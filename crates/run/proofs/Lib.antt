@@ -1,4 +1,3 @@
 pub mod Upto
 pub mod Turns
 pub mod Decided
-pub mod Cases
