@@ -43,6 +43,9 @@ pub record Part (i n l : ℕ) : Type 0 where
   pub ends : i + n ≤ l
   pub short : l ≤ 64
 
+pub single : {i l : ℕ} → i < l → l ≤ 64 → Part i 1 l
+single h b = record { ends = omega arith; short = b }
+
 module _ {i n l : ℕ} (P : Part i n l) (h : 0 < n) where
   pub start-in : i < l
   start-in = omega (arith, P .ends)

@@ -25,7 +25,7 @@ use Rattle.code.specs.Characters.{fourth, fifth, sixth}
 use Rattle.classes.specs.Classes.{classes, parityOf, charactersOf}
 use Rattle.columns.specs.Places.{Filled}
 use Rattle.columns.specs.Columns.{SumsWithin, place, far}
-use Rattle.columns.proofs.Filling.{Part}
+use Rattle.columns.proofs.Filling.{Part, single}
 use Rattle.columns.proofs.Picking.{fourth-small, fifth-small, sixth-small}
 use Rattle.pairs.specs.Pairs.{widest, firstOf, secondOf, Pairs}
 use Rattle.pairs.proofs.Pairing.{padded, pairs-within}
@@ -154,10 +154,10 @@ pub firsts : {q : ℕ} → q < 32 → Firsts q
 firsts h = record {
   known = h;
   wide = omega arith;
-  x = record { ends = omega arith; short = lit≤ tt };
+  x = single (omega arith) (lit≤ tt);
   half = omega arith;
   from-second = omega arith;
-  y = record { ends = omega arith; short = lit≤ tt };
+  y = single (omega arith) (lit≤ tt);
   parity = omega arith;
   next = omega arith;
   up = omega arith;
@@ -202,6 +202,14 @@ pub figure-read : (s l : List ℕ) (sum least k : ℕ) {i j : ℕ} → i ≡ mid
     → scored (sum + getD s i 0 + getD s j 0) (min (getD l j 0) (min (getD l i 0) least)) ≡ figureFrom s l sum least k
 unfolding figureFrom
 figure-read s l sum least k p q = rw (p, q) refl
+
+-- as it adds up
+module _ (a b c : ℕ) (h : a + b + c ≤ 6 * widest + 1) where
+  pub first-of-three : Fits w64 (a + b)
+  first-of-three = omega arith
+
+  pub all-three : Fits w64 (a + b + c)
+  all-three = omega arith
 
 pub taken-off : (l s : ℕ) → 2 * (l / 8) * (s % 2) ≤ l
 taken-off l s = two-cases (λ r. 2 * (l / 8) * r ≤ l) (omega arith) (omega arith) (s % 2) (bit-lt s)

@@ -9,7 +9,7 @@ use lib.ListN.{length, getD, set, List·getD-eq-default}
 use mir.Syntax.{w64}
 use mir.Val.{Fits}
 use Rattle.columns.specs.Places.{Filled}
-use Rattle.columns.proofs.Filling.{Part, put-four}
+use Rattle.columns.proofs.Filling.{Part, single, put-four}
 use Rattle.pairs.specs.Pairs.{widest, firstOf, secondOf, PairAt, Pairs}
 
 -- past the end of a list there are zeros
@@ -51,7 +51,7 @@ turn h = record {
   from-third = omega arith;
   from-fourth = omega arith;
   parity = omega arith;
-  x = record { ends = omega arith; short = lit≤ tt };
+  x = single (omega arith) (lit≤ tt);
   read = record { ends = omega arith; short = lit≤ tt };
   written = record { ends = omega arith; short = lit≤ tt };
   next = omega arith;

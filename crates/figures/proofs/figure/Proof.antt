@@ -1,13 +1,15 @@
 -- `figures::figure` meets its contract: the tables say where the class's pairs stand.
 use mathlib.Core.Path.{_≡_, ap, _∙_}
-use Prim.Native.Nat.{ℕ, _+_, _*_, _/_, _%_, _≤_, _<_, min}
+use Prim.Native.Nat.{ℕ, _+_, _*_, _/_, _%_, _≤_, min}
 use native.Mathlib.Omega.{arith}
 use borrow.Author.Needs.{needs}
+use lib.Dec.{lit<, lit≤}
 use lib.ListN.{getD}
 use Rattle.signed.proofs.Locals.{cast-diff-fits, cast-diff-reads}
+use Rattle.columns.proofs.Filling.{Part, single, start-in, start-fits, start-bytes}
 use Rattle.pairs.specs.Pairs.{widest}
 use Rattle.figures.specs.Figures.{scored}
-use Rattle.figures.proofs.Scoring.{middle-small, last-small, figure-read, taken-off, scored-within}
+use Rattle.figures.proofs.Scoring.{middle-small, last-small, first-of-three, all-three, figure-read, taken-off, scored-within}
 use Rattle.figures.proofs.figure.Statement.{statement}
 use Rattle.figures.proofs.figure.Tie as tie
 
@@ -18,11 +20,11 @@ i c = getD (c .args .middle .now) (c .args .k) 0
 abbrev j : tie.Start → ℕ
 j c = getD (c .args .last .now) (c .args .k) 0
 
-i-small : (c : tie.Start) → i c < 64
-i-small c = rw (c .pre .1 .1 .0 (c .args .k) (c .pre .0 .0)) (middle-small (c .args .k))
+middle-at : (c : tie.Start) → Part (i c) 1 64
+middle-at c = single (rw (c .pre .1 .1 .0 (c .args .k) (c .pre .0 .0)) (middle-small (c .args .k))) (lit≤ tt)
 
-j-small : (c : tie.Start) → j c < 64
-j-small c = rw (c .pre .1 .1 .1 (c .args .k) (c .pre .0 .0)) (last-small (c .args .k))
+last-at : (c : tie.Start) → Part (j c) 1 64
+last-at c = single (rw (c .pre .1 .1 .1 (c .args .k) (c .pre .0 .0)) (last-small (c .args .k))) (lit≤ tt)
 
 -- the sum of all codes, and the least
 abbrev s : tie.Start → ℕ
@@ -46,43 +48,43 @@ element-copy-out-i : tie.Need-element-copy-out-i
 element-copy-out-i c = search needs
 
 cast-i : tie.Need-cast-i
-cast-i c = omega (arith, i-small (c .before))
+cast-i c = start-fits (middle-at (c .before)) (lit< tt)
 
 element-copy-out-j : tie.Need-element-copy-out-j
 element-copy-out-j c = search needs
 
 cast-j : tie.Need-cast-j
-cast-j c = omega (arith, j-small (c .before .before))
+cast-j c = start-fits (last-at (c .before .before)) (lit< tt)
 
 mul-s : tie.Need-mul-s
-mul-s c = omega (arith, i-small (c .before .before))
+mul-s c = start-bytes (middle-at (c .before .before)) (lit< tt)
 
 element-copy-out-s : tie.Need-element-copy-out-s
-element-copy-out-s c = omega (arith, i-small (c .before .before))
+element-copy-out-s c = start-in (middle-at (c .before .before)) (lit< tt)
 
 add-s : tie.Need-add-s
-add-s c = omega (arith, s-small (c .before .before .before .before))
+add-s c = first-of-three _ _ _ (s-small (c .before .before .before .before))
 
 mul-s-2 : tie.Need-mul-s-2
-mul-s-2 c = omega (arith, j-small (c .before .before .before .before))
+mul-s-2 c = start-bytes (last-at (c .before .before .before .before)) (lit< tt)
 
 element-copy-out-s-2 : tie.Need-element-copy-out-s-2
-element-copy-out-s-2 c = omega (arith, j-small (c .before .before .before .before))
+element-copy-out-s-2 c = start-in (last-at (c .before .before .before .before)) (lit< tt)
 
 add-s-2 : tie.Need-add-s-2
-add-s-2 c = omega (arith, s-small (c .before .before .before .before .before))
+add-s-2 c = all-three _ _ _ (s-small (c .before .before .before .before .before))
 
 mul-smaller : tie.Need-mul-smaller
-mul-smaller c = omega (arith, j-small (c .before .before .before .before .before))
+mul-smaller c = start-bytes (last-at (c .before .before .before .before .before)) (lit< tt)
 
 element-copy-out-smaller : tie.Need-element-copy-out-smaller
-element-copy-out-smaller c = omega (arith, j-small (c .before .before .before .before .before))
+element-copy-out-smaller c = start-in (last-at (c .before .before .before .before .before)) (lit< tt)
 
 mul-smaller-2 : tie.Need-mul-smaller-2
-mul-smaller-2 c = omega (arith, i-small (c .before .before .before .before .before .before))
+mul-smaller-2 c = start-bytes (middle-at (c .before .before .before .before .before .before)) (lit< tt)
 
 element-copy-out-smaller-2 : tie.Need-element-copy-out-smaller-2
-element-copy-out-smaller-2 c = omega (arith, i-small (c .before .before .before .before .before .before))
+element-copy-out-smaller-2 c = start-in (middle-at (c .before .before .before .before .before .before)) (lit< tt)
 
 smaller-requires : tie.Need-smaller-requires
 smaller-requires c κs = search needs
