@@ -7,7 +7,7 @@ use Rattle.golay.specs.Answers.{Answer, accepted, refused}
 use Rattle.bytewise.specs.Answers.{lent}
 use Rattle.bytewise.specs.Bytes.{bytesOf}
 use Rattle.bytewise.specs.Calls.{writeBytesRule, WritesBytes}
-use Rattle.hard.proofs.Decided.{candidates-once, slots-once}
+use Rattle.candidates.proofs.Decided.{candidates-once, slots-once}
 use Rattle.drive.specs.Drive.{HandsBack, HandsBackOne, HandsBackCandidates, returned, output}
 
 module _ {A M : Type 0} {answer : Answer A} {made : A → M} {before : M} where

@@ -5,7 +5,7 @@ use Prim.Native.Nat.{ℕ}
 use lib.IntN.{ℤ}
 use Rattle.golay.specs.Answers.{Answer, accepted, refused}
 use Rattle.hard.specs.Answers.{Correction}
-use Rattle.hard.specs.Calls.{WritesCandidates}
+use Rattle.candidates.specs.Calls.{WritesCandidates}
 use Rattle.soft.specs.declared.kinds.Soft.{Soft}
 
 module _ {A : Type 0} where

@@ -8,11 +8,11 @@ ghost use Rattle.quick.specs.Quick.{QuickRule};
 ghost use Rattle.drive.specs.Drive.{HandsBack, HandsBackOne, HandsBackCandidates, itself, correction, values};
 use bytewise::kinds::ReadBytesAnswer;
 use bytewise::kinds::WriteBytesAnswer;
+use candidates::kinds::CandidatesAnswer;
 use golay::kinds::EncodeAnswer;
 use golay::kinds::Message;
 use golay::kinds::ReadAnswer;
 use golay::kinds::SyndromeAnswer;
-use hard::kinds::CandidatesAnswer;
 use hard::kinds::CorrectAnswer;
 use quick::kinds::QuickAnswer;
 use soft::kinds::ClassFigureAnswer;
@@ -75,7 +75,7 @@ pub extern "C" fn garthumor_correct(word: u32, codeword: &mut u32, distance: &mu
 pub extern "C" fn garthumor_candidates(word: u32, slots: &mut [u32]) -> u8
     ensures { λ r. ⌜ HandsBackCandidates word (now (slots .entry)) (now (slots .exit)) r ⌝ }
 {
-    match hard::candidates(word, slots) {
+    match candidates::candidates(word, slots) {
         CandidatesAnswer::Accepted => 0,
         CandidatesAnswer::Refused(reason) => golay::refusal_number(reason),
     }

@@ -1,85 +1,12 @@
--- What the calls inside both functions say of the word (golay's syndrome, the pattern of that, its ones), and the promises that follow.
+-- What correction returns, by what is found of the word, is what its promise says.
 -- Assumes nothing.
-use mathlib.Core.Path.{_≡_, refl, sym, ap, _∙_, subst}
-use mathlib.Core.Logic.{⊎-elim}
-use mathlib.Core.List.{List}
-use Prim.Native.Nat.{ℕ, _%_, _≤_, _<_}
-use native.Mathlib.Nat.{mod-eq-of-lt}
-use native.Mathlib.Omega.{arith}
-use lib.Dec.{lit≤}
+use mathlib.Core.Path.{_≡_, sym, ap, _∙_}
+use Prim.Native.Nat.{ℕ}
 use lib.Bits.{bitXor}
-use lib.ListN.{length, getD}
-use Rattle.binary.specs.Words.{ones}
-use Rattle.binary.proofs.Ones.{ones-beyond}
-use Rattle.binary.proofs.Places.{le-or-lt}
-use Rattle.code.specs.Code.{words, syndromes, syndromeOf}
-use Rattle.code.proofs.Syndromes.{syndrome-lt}
-use Rattle.golay.specs.declared.kinds.Refusal.{Refusal}
-use Rattle.golay.specs.declared.kinds.Syndrome.{Syndrome}
-use Rattle.golay.specs.declared.kinds.SyndromeAnswer.{SyndromeAnswer}
-use Rattle.golay.specs.declared.kinds.SyndromeAnswer.the-variants.{Accepted, Refused}
-use Rattle.golay.specs.Refusals.{number}
-use Rattle.golay.specs.Answers.{accepted, refused, syndromeAnswer}
-use Rattle.golay.specs.Calls.{syndromeRule}
-use Rattle.golay.proofs.Rules.{syndrome-above, syndrome-within}
-use Rattle.patterns.specs.Patterns.{IsPattern}
-use Rattle.table.proofs.Table.{table}
-use Rattle.table.proofs.Entries.{table-pattern}
-use Rattle.hard.specs.Candidates.{Candidates, AtFour}
-use Rattle.hard.specs.Calls.{Corrects, WritesCandidates}
-use Rattle.hard.proofs.Rules.{correct-above, correct-four, correct-nearer, candidates-length, candidates-above, candidates-other, candidates-four}
-
-pub record Within (word s : ℕ) : Type 0 where
-  pub low : word < words
-  pub syndrome : s ≡ syndromeOf word
-
-pub record Above (word n : ℕ) : Type 0 where
-  pub high : words ≤ word
-  pub number : n ≡ 4
-
-module _ (word : ℕ) {answer : SyndromeAnswer} (rule : syndromeAnswer answer ≡ syndromeRule word) where
-  pub syndrome-accepted : {s : Syndrome} → answer ≡ Accepted s → Within word (s .0)
-  syndrome-accepted {s} e =
-      let a : accepted (s .0) ≡ syndromeRule word = sym (ap syndromeAnswer e) ∙ rule in
-      ⊎-elim
-      (λ h. let z : _≡_ {A = ℕ} 0 1 = cc (a, syndrome-above word h) in let f : ⊥ = omega arith in absurd f)
-      (λ h. record { low = h; syndrome = cc (a, syndrome-within word h) })
-      (le-or-lt words word)
-
-  pub syndrome-refused : {reason : Refusal} → answer ≡ Refused reason → Above word (number reason)
-  syndrome-refused {reason} e =
-      let a : refused (number reason) ≡ syndromeRule word = sym (ap syndromeAnswer e) ∙ rule in
-      ⊎-elim
-      (λ h. record { high = h; number = cc (a, syndrome-above word h) })
-      (λ h. let z : _≡_ {A = ℕ} 0 1 = cc (a, syndrome-within word h) in let f : ⊥ = omega arith in absurd f)
-      (le-or-lt words word)
-
-within-lt : {word s : ℕ} → Within word s → s < syndromes
-within-lt {word} w = rw (w .syndrome) (syndrome-lt word)
-
--- the pattern of the word's syndrome, and its ones: golay counts those of 32 bits, and a pattern has none above its 24
-pub record Found (word p n : ℕ) : Type 0 where
-  pub low : word < words
-  pub rule : IsPattern (syndromeOf word) p
-  pub count : n ≡ ones 24 p
-
-pub found : {word s p n : ℕ} → Within word s → IsPattern (s % syndromes) p → n ≡ ones 32 p → Found word p n
-found {p = p} w r e = record {
-  low = w .low;
-  rule = subst (λ (x : ℕ). IsPattern x p) (mod-eq-of-lt (within-lt w) ∙ w .syndrome) r;
-  count = e ∙ ones-beyond 24 32 p (r .word) (lit≤ tt);
-}
-
--- ---- what the functions return
-
--- any word's syndrome has a pattern, also where the word is above the range
-module _ (word : ℕ) where
-  entry : ℕ
-  entry = getD table (syndromeOf word) 0
-
-  entry-rule : IsPattern (syndromeOf word) entry
-  unfolding entry
-  entry-rule = table-pattern (syndromeOf word) (syndrome-lt word)
+use Rattle.golay.specs.Answers.{accepted, refused}
+use Rattle.hard.specs.Calls.{Corrects}
+use Rattle.hard.proofs.Rules.{correct-above, correct-four, correct-nearer}
+use Rattle.hard.proofs.Found.{Above, Found, entry, entry-rule}
 
 pub corrects-above : {word n : ℕ} → Above word n → Corrects word (refused n)
 corrects-above {word} a = record {
@@ -102,46 +29,3 @@ module _ {word p n : ℕ} (f : Found word p n) where
     rule = f .rule;
     answered = rw (f .count) (sym (correct-nearer word p (f .low) (λ o. e (f .count ∙ o))));
   }
-
-pub at-four : {word s p n : ℕ} → Within word s → IsPattern (s % syndromes) p → n ≡ ones 32 p → n ≡ 4 → AtFour word s
-at-four {p = p} w r e four = record {
-  within = w .low;
-  syndrome = w .syndrome;
-  pattern = p;
-  rule = subst (λ (x : ℕ). IsPattern x p) (mod-eq-of-lt (within-lt w)) r;
-  four = sym (found w r e .count) ∙ four;
-}
-
-pub writes-length : (word : ℕ) (slots : List ℕ) → (length slots ≡ 6 → ⊥) → WritesCandidates word slots (refused 1) slots
-writes-length word slots l = record {
-  pattern = entry word;
-  rule = entry-rule word;
-  answered = sym (candidates-length word (entry word) slots l);
-  slots = refl;
-}
-
-module _ (slots : List ℕ) (l : length slots ≡ 6) where
-  pub writes-above : {word n : ℕ} → Above word n → WritesCandidates word slots (refused n) slots
-  writes-above {word} a = record {
-    pattern = entry word;
-    rule = entry-rule word;
-    answered = ap refused (a .number) ∙ sym (candidates-above word (entry word) slots l (a .high));
-    slots = refl;
-  }
-
-  module _ {word p n : ℕ} (f : Found word p n) where
-    pub writes-other : (n ≡ 4 → ⊥) → WritesCandidates word slots (refused 8) slots
-    writes-other e = record {
-      pattern = p;
-      rule = f .rule;
-      answered = sym (candidates-other word p slots l (f .low) (λ o. e (f .count ∙ o)));
-      slots = refl;
-    }
-
-    pub writes-four : n ≡ 4 → {after : List ℕ} → Candidates word after → WritesCandidates word slots (accepted tt) after
-    writes-four e k = record {
-      pattern = p;
-      rule = f .rule;
-      answered = sym (candidates-four word p slots l (f .low) (sym (f .count) ∙ e));
-      slots = k;
-    }

@@ -1,7 +1,5 @@
 pub mod Rules
+pub mod Found
 pub mod Calls
-pub mod Ascending
-pub mod Arrange
-pub mod Slots
 pub mod Decided
 pub mod Meaning

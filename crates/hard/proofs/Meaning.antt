@@ -1,30 +1,24 @@
--- What the answers say of the code, with no table: an accepted correction is the only codeword at its distance and none is nearer; every word
--- that has a codeword within 3 is corrected to it; at refusal 7 none is nearer than 4; and at refusal 8 none stands at distance 4.
+-- What correction's answers say of the code, with no table: an accepted one is the only codeword at its distance and none is nearer; every word
+-- that has a codeword within 3 is corrected to it; and at refusal 7 none is nearer than 4.
 -- Assumes nothing.
-use mathlib.Core.Path.{_≡_, refl, sym, ap, ap₂, _∙_, subst}
+use mathlib.Core.Path.{_≡_, sym, ap, ap₂, _∙_, subst}
 use mathlib.Core.Logic.{⊎-elim}
-use mathlib.Core.Bool.{Bool, true, false, not}
-use mathlib.Core.List.{List}
 use Prim.Native.Nat.{ℕ, _≤_, _<_}
 use native.Mathlib.Nat.{eq-or-lt-of-le}
 use native.Mathlib.Omega.{arith}
-use lib.Dec.{T, T-not, nleb→lt, eqb}
+use lib.Dec.{T}
 use lib.Bits.{bitXor}
 use Rattle.binary.specs.Words.{ones, distance}
 use Rattle.code.specs.Code.{words, isCodeword, syndromeOf}
 use Rattle.code.proofs.Syndromes.{syndrome-lt}
-use Rattle.golay.specs.declared.kinds.Refusal.the-variants.{WrongLength, WordAbove, NotDistanceFour}
-use Rattle.golay.specs.Answers.{Answer, accepted, refused, refuse}
-use Rattle.golay.specs.Calls.{wordAbove, wrongLength}
+use Rattle.golay.specs.Answers.{Answer, accepted, refused}
 use Rattle.patterns.specs.Patterns.{IsPattern}
 use Rattle.patterns.specs.Nearest.{Nearest}
 use Rattle.binary.proofs.Places.{le-or-lt}
 use Rattle.table.proofs.Entries.{pattern-ones}
 use Rattle.patterns.proofs.Nearest.{pattern-nearest, only-within, only-nearest}
 use Rattle.hard.specs.Answers.{Correction}
-use Rattle.hard.specs.Candidates.{Candidate, Candidates}
-use Rattle.hard.specs.Calls.{correctRule, Corrects, candidatesRule, WritesCandidates}
-use Rattle.hard.proofs.Arrange.{arrange, arrange-candidates}
+use Rattle.hard.specs.Calls.{correctRule, Corrects}
 use Rattle.hard.proofs.Rules.{correct-above, correct-four, correct-nearer}
 
 abbrev pub correction : ℕ → ℕ → Correction
@@ -47,7 +41,8 @@ way word p r =
     (eq-or-lt-of-le (pattern-ones (syndrome-lt word) r)))
     (le-or-lt words word)
 
-no-answer : {A : Type 0} {a : A} {n : ℕ} → _≡_ {A = Answer A} (accepted a) (refused n) → ⊥
+-- an answer is no refusal
+pub no-answer : {A : Type 0} {a : A} {n : ℕ} → _≡_ {A = Answer A} (accepted a) (refused n) → ⊥
 no-answer e = let z : _≡_ {A = ℕ} 0 1 = cc in omega arith
 
 -- Rule 5.5: what is answered is a nearest codeword and its distance, and no second codeword is as near
@@ -103,36 +98,3 @@ correct-seven {word} p c g t = by (way word (p .pattern) (p .rule))
     by (above h e) = let z : _≡_ {A = ℕ} 7 4 = cc (p .answered, e) in let f : ⊥ = omega arith in absurd f
     by (four h o e) = subst (λ (x : ℕ). x ≤ distance 24 word c) o (pattern-nearest word (p .pattern) h (p .rule) .least c g t)
     by (nearer h o e) = absurd (no-answer (sym (p .answered ∙ e)))
-
--- ---- candidates
-
--- Rule 5.7: a word at distance 4 from the code has six candidates
-pub six-candidates : (word p : ℕ) → word < words → IsPattern (syndromeOf word) p → ones 24 p ≡ 4 → (cs : List ℕ) × Candidates word cs
-six-candidates word p h r o =
-    (arrange word (syndromeOf word) 24, arrange-candidates word (syndromeOf word) (record { within = h; syndrome = refl; pattern = p; rule = r; four = o }))
-
-pub candidates-accepted : {word : ℕ} {before after : List ℕ} → WritesCandidates word before (accepted tt) after → Candidates word after
-candidates-accepted p = p .slots
-
-eight-tests :
-    (long above at-four : Bool)
-    → refused 8 ≡ refuse WrongLength long (refuse WordAbove above (refuse NotDistanceFour (not at-four) (accepted (tt {0}))))
-    → T (not above) × T (not at-four)
-eight-tests true b c e = let z : _≡_ {A = ℕ} 8 1 = cc in let f : ⊥ = omega arith in absurd f
-eight-tests false true c e = let z : _≡_ {A = ℕ} 8 4 = cc in let f : ⊥ = omega arith in absurd f
-eight-tests false false true e = absurd (no-answer (sym e))
-eight-tests false false false e = (tt, tt)
-
-not-four : (n : ℕ) → n ≤ 4 → T (not (eqb n 4)) → n ≤ 3
-not-four n h t = ⊎-elim (λ e. absurd (T-not (eqb n 4) t (rw e tt))) (λ l. omega arith) (eq-or-lt-of-le h)
-
--- Rule 5.8: where the answer is 8, no codeword stands at distance 4
-pub candidates-eight : {word : ℕ} {before after : List ℕ} → WritesCandidates word before (refused 8) after → (c : ℕ) → Candidate word c → ⊥
-unfolding candidatesRule
-candidates-eight {word} {before} w c k =
-    let p = w .pattern in
-    let tests = eight-tests (wrongLength 6 before) (wordAbove word) (eqb (ones 24 p) 4) (w .answered) in
-    let h = nleb→lt words word (tests .0) in
-    let o = not-four (ones 24 p) (pattern-ones (syndrome-lt word) (w .rule)) (tests .1) in
-    let only : c ≡ bitXor word p = only-within word p h (w .rule) c (k .short) (k .codeword) (omega (arith, k .apart)) in
-    omega (arith, k .apart, ap (distance 24 word) only, pattern-nearest word p h (w .rule) .apart)

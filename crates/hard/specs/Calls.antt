@@ -1,19 +1,16 @@
--- Rule 11.3: what each call answers, for every input, its refusals in the order of rule 11.2. Both go by the ones of the word's error
+-- Rule 11.3: what correction answers, for every input, its refusals in the order of rule 11.2. It goes by the ones of the word's error
 -- pattern, its distance from the code (5.4).
 use mathlib.Core.Path.{_≡_}
-use mathlib.Core.Bool.{not}
-use mathlib.Core.List.{List}
 use Prim.Native.Nat.{ℕ}
 use lib.Dec.{eqb}
 use lib.Bits.{bitXor}
 use Rattle.binary.specs.Words.{ones}
 use Rattle.code.specs.Code.{syndromeOf}
-use Rattle.golay.specs.declared.kinds.Refusal.the-variants.{WrongLength, WordAbove, DistanceFour, NotDistanceFour}
-use Rattle.golay.specs.Answers.{Answer, accepted, refused, refuse}
-use Rattle.golay.specs.Calls.{wordAbove, wrongLength}
+use Rattle.golay.specs.declared.kinds.Refusal.the-variants.{WordAbove, DistanceFour}
+use Rattle.golay.specs.Answers.{Answer, accepted, refuse}
+use Rattle.golay.specs.Calls.{wordAbove}
 use Rattle.patterns.specs.Patterns.{IsPattern}
 use Rattle.hard.specs.Answers.{Correction}
-use Rattle.hard.specs.Candidates.{Candidates}
 
 -- Rules 5.5 and 5.6: 4, then 7 where the distance is 4, or the exclusive or of word and pattern, and the distance
 unfoldable pub correctRule : ℕ → ℕ → Answer Correction
@@ -26,21 +23,3 @@ pub record Corrects (word : ℕ) (answer : Answer Correction) : Type 0 where
   pub pattern : ℕ
   pub rule : IsPattern (syndromeOf word) pattern
   pub answered : answer ≡ correctRule word pattern
-
--- Rules 5.7 and 5.8: 1, then 4, then 8 where the distance is not 4, or no refusal
-unfoldable pub candidatesRule : ℕ → ℕ → List ℕ → Answer (Unit {0})
-candidatesRule word pattern slots =
-    refuse WrongLength (wrongLength 6 slots)
-    (refuse WordAbove (wordAbove word) (refuse NotDistanceFour (not (eqb (ones 24 pattern) 4)) (accepted tt)))
-
--- Rules 5.7 and 11.5: what the slots hold after the call: the candidates, or on a refusal what they held before
-abbrev pub SlotsHold : {A : Type 0} → ℕ → Answer A → List ℕ → List ℕ → Type 0
-SlotsHold word (accepted x) before after = Candidates word after
-SlotsHold word (refused n) before after = after ≡ before
-
--- Rule 11.3, candidates: by the error pattern (5.2) of the word's syndrome
-pub record WritesCandidates (word : ℕ) (before : List ℕ) (answer : Answer (Unit {0})) (after : List ℕ) : Type 0 where
-  pub pattern : ℕ
-  pub rule : IsPattern (syndromeOf word) pattern
-  pub answered : answer ≡ candidatesRule word pattern before
-  pub slots : SlotsHold word answer before after

@@ -1,19 +1,13 @@
-// Hard correction (rules 5.5 and 5.6) and the candidate call (5.7 and 5.8), both by the table of error patterns. Each call answers for every
-// input, and its promise decides the whole answer and what the slots hold.
-ghost use mathlib.Core.Path.{_≡_};
-ghost use lib.ListN.{length};
-ghost use Rattle.hard.specs.Answers.{correctAnswer, candidatesAnswer};
-ghost use Rattle.hard.specs.Calls.{Corrects, WritesCandidates};
-ghost use Rattle.hard.specs.Candidates.{Candidates, AtFour};
+// Hard correction (rules 5.5 and 5.6), by the table of error patterns. It answers for every input, and its promise decides the whole answer.
+ghost use Rattle.hard.specs.Answers.{correctAnswer};
+ghost use Rattle.hard.specs.Calls.{Corrects};
 
 pub mod kinds;
 
 use golay::kinds::Codeword;
 use golay::kinds::Refusal;
 use golay::kinds::SyndromeAnswer;
-use kinds::CandidatesAnswer;
 use kinds::CorrectAnswer;
-use rows::SYNDROMES;
 
 // The codeword nearest to a word and its distance, 0 to 3. Refuses 4, then 7.
 pub fn correct(word: u32) -> CorrectAnswer
@@ -28,53 +22,6 @@ pub fn correct(word: u32) -> CorrectAnswer
                 return CorrectAnswer::Refused(Refusal::DistanceFour);
             }
             CorrectAnswer::Accepted(Codeword(word ^ error), distance)
-        }
-    }
-}
-
-// Writes the six codewords at distance four from a word of syndrome s. Each differs from the word by an error of four ones: its highest place,
-// and the pattern of what syndrome is left. Going down the places, the codeword found at one stands before all that follow if the word has a
-// one there, and after them if not: so the slots fill from both ends.
-fn fill(word: u32, s: u32, slots: &mut [u32])
-    requires { ⌜ AtFour word s ⌝ }
-    requires { ⌜ length (now slots) ≡ 6 ⌝ }
-    ensures { λ r. ⌜ Candidates word (now (slots .exit)) ⌝ }
-{
-    let mut first: usize = 0;
-    let mut end: usize = 6;
-    let mut i: u32 = 24;
-    while i > 0 {
-        i -= 1;
-        let place: u32 = 1 << i;
-        let rest = lookup::pattern(s ^ SYNDROMES[i as usize]);
-        if rest < place {
-            let candidate = word ^ (place + rest);
-            if (word >> i) % 2 == 1 {
-                slots[first] = candidate;
-                first += 1;
-            } else {
-                end -= 1;
-                slots[end] = candidate;
-            }
-        }
-    }
-}
-
-// Writes the six codewords at distance four from a word to six slots, the least first. Refuses 1, then 4, then 8, and then no slot changes.
-pub fn candidates(word: u32, slots: &mut [u32]) -> CandidatesAnswer
-    ensures { λ r. ⌜ WritesCandidates word (now (slots .entry)) (candidatesAnswer r) (now (slots .exit)) ⌝ }
-{
-    if slots.len() != 6 {
-        return CandidatesAnswer::Refused(Refusal::WrongLength);
-    }
-    match golay::syndrome(word) {
-        SyndromeAnswer::Refused(reason) => CandidatesAnswer::Refused(reason),
-        SyndromeAnswer::Accepted(s) => {
-            if golay::ones(lookup::pattern(s.0)) != 4 {
-                return CandidatesAnswer::Refused(Refusal::NotDistanceFour);
-            }
-            fill(word, s.0, slots);
-            CandidatesAnswer::Accepted
         }
     }
 }

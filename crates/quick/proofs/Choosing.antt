@@ -15,10 +15,11 @@ use Rattle.contest.specs.Largest.{Best}
 use Rattle.code.specs.Code.{words, syndromeOf}
 use Rattle.golay.specs.Answers.{Answer, accepted, refused}
 use Rattle.patterns.proofs.Patterns.{pattern-unique}
-use Rattle.hard.specs.Answers.{Correction}
-use Rattle.hard.specs.Candidates.{_∈_, Ascending, Candidate, Candidates, AtFour}
-use Rattle.hard.specs.Calls.{Corrects, WritesCandidates, SlotsHold}
-use Rattle.hard.proofs.Rules.{correct-nearer, candidates-four}
+use Rattle.hard.specs.Calls.{Corrects}
+use Rattle.hard.proofs.Rules.{correct-nearer}
+use Rattle.candidates.specs.Candidates.{_∈_, Ascending, Candidate, Candidates, AtFour}
+use Rattle.candidates.specs.Calls.{WritesCandidates, SlotsHold}
+use Rattle.candidates.proofs.Rules.{candidates-four}
 use Rattle.quick.specs.Quick.{costOf, merits, Cheapest, TwoCheapest, Chosen, alone, shared}
 
 -- ---- at distance four

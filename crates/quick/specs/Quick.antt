@@ -11,8 +11,8 @@ use Rattle.golay.specs.declared.kinds.Refusal.the-variants.{WrongLength, MostNe
 use Rattle.golay.specs.Refusals.{number}
 use Rattle.golay.specs.Answers.{Answer, accepted, refused, Refuse}
 use Rattle.hard.specs.Answers.{Correction}
-use Rattle.hard.specs.Candidates.{Candidate}
 use Rattle.hard.specs.Calls.{Corrects}
+use Rattle.candidates.specs.Candidates.{Candidate}
 use Rattle.golay.specs.Calls.{wrongLength}
 use Rattle.reading.specs.Checks.{mostNegative}
 use Rattle.signs.specs.Signs.{signWord, cost}

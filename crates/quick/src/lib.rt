@@ -7,7 +7,7 @@ ghost use lib.ListN.{length};
 ghost use Rattle.signed.specs.Within.{Within};
 ghost use Rattle.contest.specs.Largest.{Best};
 ghost use Rattle.code.specs.Code.{positions, words, syndromeOf};
-ghost use Rattle.hard.specs.Candidates.{AtFour};
+ghost use Rattle.candidates.specs.Candidates.{AtFour};
 ghost use Rattle.signs.specs.Signs.{cost};
 ghost use Rattle.quick.specs.Quick.{quickAnswer, merits, Chosen, QuickRule};
 
@@ -50,7 +50,7 @@ fn chosen(word: u32, reading: &[i32]) -> QuickAnswer
     ensures { λ r. ⌜ Chosen word (now (reading .entry)) (quickAnswer r) ⌝ }
 {
     let mut slots: [u32; 6] = [0; 6];
-    hard::candidates(word, &mut slots);
+    candidates::candidates(word, &mut slots);
     let kept = cheapest(word, &slots, reading);
     let best = kept.best;
     let second = kept.second;

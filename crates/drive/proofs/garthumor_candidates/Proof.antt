@@ -1,8 +1,8 @@
--- `drive::garthumor_candidates` meets its contract, by that of `hard::candidates`.
+-- `drive::garthumor_candidates` meets its contract, by that of `candidates::candidates`.
 -- Assumes nothing.
 use mathlib.Core.Path.{ap, sym, _∙_}
 use borrow.Author.Needs.{needs}
-use Rattle.hard.specs.Answers.{candidatesAnswer}
+use Rattle.candidates.specs.Answers.{candidatesAnswer}
 use Rattle.drive.specs.Drive.{returned}
 use Rattle.drive.proofs.garthumor_candidates.Statement.{statement}
 use Rattle.drive.proofs.garthumor_candidates.Tie as tie

@@ -2,7 +2,8 @@
 -- Assumes nothing.
 use native.Mathlib.Omega.{arith}
 use borrow.Author.Needs.{needs}
-use Rattle.hard.proofs.Calls.{syndrome-accepted, syndrome-refused, found, corrects-above, corrects-four, corrects-nearer}
+use Rattle.hard.proofs.Found.{syndrome-accepted, syndrome-refused, found}
+use Rattle.hard.proofs.Calls.{corrects-above, corrects-four, corrects-nearer}
 use Rattle.hard.proofs.correct.Statement.{statement}
 use Rattle.hard.proofs.correct.Tie as tie
 

@@ -1,12 +1,12 @@
--- `hard::fill` meets its contract: each turn places what its place leads to, and after the last the slots hold the whole arrangement.
+-- `candidates::fill` meets its contract: each turn places what its place leads to, and after the last the slots hold the whole arrangement.
 -- Assumes nothing.
 use mathlib.Core.Path.{_∙_, sym}
 use native.Mathlib.Omega.{arith}
 use denote.Ref.{now}
 use borrow.Author.Needs.{needs}
-use Rattle.hard.proofs.Slots.{FilledFrom, begun, done, turn-fits, turn-room, turn-skip, turn-front, turn-back}
-use Rattle.hard.proofs.fill.Statement.{statement}
-use Rattle.hard.proofs.fill.Tie as tie
+use Rattle.candidates.proofs.Slots.{FilledFrom, begun, done, turn-fits, turn-room, turn-skip, turn-front, turn-back}
+use Rattle.candidates.proofs.fill.Statement.{statement}
+use Rattle.candidates.proofs.fill.Tie as tie
 
 abbrev Inv-loop : tie.InvT-loop
 Inv-loop word s slots₀ first₀ end₀ i₀ slots first end i = FilledFrom word s slots first end i

@@ -19,8 +19,8 @@ use Rattle.code.proofs.Syndromes.{syndrome-lt}
 use Rattle.binary.proofs.Places.{le-or-lt}
 use Rattle.patterns.proofs.Nearest.{error-syndrome, error-codeword}
 use Rattle.table.proofs.Fours.{rest, leads, four, one, leaders, four-found, four-lt, four-syndrome, six-lead, four-ones}
-use Rattle.hard.specs.Candidates.{_∈_, Ascending, Candidate, Candidates, AtFour}
-use Rattle.hard.proofs.Ascending.{end-cases, ascending-end}
+use Rattle.candidates.specs.Candidates.{_∈_, Ascending, Candidate, Candidates, AtFour}
+use Rattle.candidates.proofs.Ascending.{end-cases, ascending-end}
 
 -- c, if it leads, before all of the list or after all of it
 abbrev pub put : Bool → Bool → ℕ → List ℕ → List ℕ

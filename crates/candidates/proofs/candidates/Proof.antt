@@ -1,11 +1,12 @@
--- `hard::candidates` meets its contract: each refusal stands before the first store, and `fill` writes the candidates.
+-- `candidates::candidates` meets its contract: each refusal stands before the first store, and `fill` writes the candidates.
 -- Assumes nothing.
 use native.Mathlib.Omega.{arith}
 use denote.Ref.{now}
 use borrow.Author.Needs.{needs}
-use Rattle.hard.proofs.Calls.{syndrome-accepted, syndrome-refused, found, at-four, writes-length, writes-above, writes-other, writes-four}
-use Rattle.hard.proofs.candidates.Statement.{statement}
-use Rattle.hard.proofs.candidates.Tie as tie
+use Rattle.hard.proofs.Found.{syndrome-accepted, syndrome-refused, found}
+use Rattle.candidates.proofs.Calls.{at-four, writes-length, writes-above, writes-other, writes-four}
+use Rattle.candidates.proofs.candidates.Statement.{statement}
+use Rattle.candidates.proofs.candidates.Tie as tie
 
 returns : tie.Need-returns
 returns c = writes-length (c .before .before .args .word) (now (c .before .before .args .slots)) (omega arith)

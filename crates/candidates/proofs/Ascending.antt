@@ -5,7 +5,7 @@ use mathlib.Core.Logic.{_⊎_, inl, inr, ⊎-elim}
 use mathlib.Core.List.{List, [], _∷_, _++_, List·Memᴰ·head, List·Memᴰ·tail, List·Memᴰ·not-nil, List·Memᴰ·cases-cons, List·Memᴰ·append-cases, List·Memᴰ·eq-of-singleton}
 use Prim.Native.Nat.{ℕ, _<_}
 use native.Mathlib.Omega.{arith}
-use Rattle.hard.specs.Candidates.{_∈_, Ascending}
+use Rattle.candidates.specs.Candidates.{_∈_, Ascending}
 
 pub end-cases : (cs : List ℕ) {c d : ℕ} → d ∈ cs ++ (c ∷ []) → (d ≡ c) ⊎ (d ∈ cs)
 end-cases cs m = ⊎-elim (λ n. inr n) (λ n. inl (List·Memᴰ·eq-of-singleton n)) (List·Memᴰ·append-cases cs m)

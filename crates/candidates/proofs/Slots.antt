@@ -17,8 +17,8 @@ use Rattle.code.proofs.Syndromes.{syndromeRows}
 use Rattle.patterns.specs.Patterns.{IsPattern}
 use Rattle.patterns.proofs.Patterns.{pattern-unique}
 use Rattle.table.proofs.Fours.{rest, leads, four, one, pattern-of, row-lt}
-use Rattle.hard.specs.Candidates.{Candidates, AtFour}
-use Rattle.hard.proofs.Arrange.{put, isSet, arrange, put-length, at-four-lt, arrange-candidates}
+use Rattle.candidates.specs.Candidates.{Candidates, AtFour}
+use Rattle.candidates.proofs.Arrange.{put, isSet, arrange, put-length, at-four-lt, arrange-candidates}
 
 -- the slots before `first` and from `end` on are done: what leads below place i goes between
 pub record FilledFrom (word s : ℕ) (slots : List ℕ) (first end i : ℕ) : Type 0 where

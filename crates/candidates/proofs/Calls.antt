@@ -1,0 +1,58 @@
+-- What the candidate call returns and leaves in the slots, by what is found of the word, is what its promise says.
+-- Assumes nothing.
+use mathlib.Core.Path.{_≡_, refl, sym, ap, _∙_, subst}
+use mathlib.Core.List.{List}
+use Prim.Native.Nat.{ℕ, _%_}
+use native.Mathlib.Nat.{mod-eq-of-lt}
+use lib.ListN.{length}
+use Rattle.binary.specs.Words.{ones}
+use Rattle.code.specs.Code.{syndromes}
+use Rattle.golay.specs.Answers.{accepted, refused}
+use Rattle.patterns.specs.Patterns.{IsPattern}
+use Rattle.hard.proofs.Found.{Within, Above, within-lt, Found, found, entry, entry-rule}
+use Rattle.candidates.specs.Candidates.{Candidates, AtFour}
+use Rattle.candidates.specs.Calls.{WritesCandidates}
+use Rattle.candidates.proofs.Rules.{candidates-length, candidates-above, candidates-other, candidates-four}
+
+pub at-four : {word s p n : ℕ} → Within word s → IsPattern (s % syndromes) p → n ≡ ones 32 p → n ≡ 4 → AtFour word s
+at-four {p = p} w r e four = record {
+  within = w .low;
+  syndrome = w .syndrome;
+  pattern = p;
+  rule = subst (λ (x : ℕ). IsPattern x p) (mod-eq-of-lt (within-lt w)) r;
+  four = sym (found w r e .count) ∙ four;
+}
+
+pub writes-length : (word : ℕ) (slots : List ℕ) → (length slots ≡ 6 → ⊥) → WritesCandidates word slots (refused 1) slots
+writes-length word slots l = record {
+  pattern = entry word;
+  rule = entry-rule word;
+  answered = sym (candidates-length word (entry word) slots l);
+  slots = refl;
+}
+
+module _ (slots : List ℕ) (l : length slots ≡ 6) where
+  pub writes-above : {word n : ℕ} → Above word n → WritesCandidates word slots (refused n) slots
+  writes-above {word} a = record {
+    pattern = entry word;
+    rule = entry-rule word;
+    answered = ap refused (a .number) ∙ sym (candidates-above word (entry word) slots l (a .high));
+    slots = refl;
+  }
+
+  module _ {word p n : ℕ} (f : Found word p n) where
+    pub writes-other : (n ≡ 4 → ⊥) → WritesCandidates word slots (refused 8) slots
+    writes-other e = record {
+      pattern = p;
+      rule = f .rule;
+      answered = sym (candidates-other word p slots l (f .low) (λ o. e (f .count ∙ o)));
+      slots = refl;
+    }
+
+    pub writes-four : n ≡ 4 → {after : List ℕ} → Candidates word after → WritesCandidates word slots (accepted tt) after
+    writes-four e k = record {
+      pattern = p;
+      rule = f .rule;
+      answered = sym (candidates-four word p slots l (f .low) (sym (f .count) ∙ e));
+      slots = k;
+    }

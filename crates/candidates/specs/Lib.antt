@@ -1,0 +1,3 @@
+pub mod Candidates
+pub mod Answers
+pub mod Calls
