@@ -15,8 +15,8 @@ use Rattle.soft.specs.Calls.{ClassFigureRule, SoftRule}
 use Rattle.soft.proofs.Decided.{classFigure-once, soft-once}
 use Rattle.quick.specs.Quick.{QuickRule}
 use Rattle.quick.proofs.Rules.{quick-once}
-use Rattle.drive.specs.Drive.{HandsBack, HandsBackOne, HandsBackCandidates, itself}
-use Rattle.drive.proofs.Hands.{hands-decided, hands-one-decided, hands-candidates-decided}
+use Rattle.hands.specs.Hands.{HandsBack, HandsBackOne, HandsBackCandidates, itself}
+use Rattle.hands.proofs.Hands.{hands-decided, hands-one-decided, hands-candidates-decided}
 
 -- what a promise of outputs before, outputs after and a status leaves open: nothing
 abbrev Decided : {M : Type 0} → (M → M → ℕ → Type 0) → Type 0

@@ -1,2 +1,1 @@
-pub mod Hands
 pub mod Decided

@@ -3,7 +3,7 @@
 use mathlib.Core.Path.{ap, sym, _∙_}
 use borrow.Author.Needs.{needs}
 use Rattle.candidates.specs.Answers.{candidatesAnswer}
-use Rattle.drive.specs.Drive.{returned}
+use Rattle.hands.specs.Hands.{returned}
 use Rattle.drive.proofs.garthumor_candidates.Statement.{statement}
 use Rattle.drive.proofs.garthumor_candidates.Tie as tie
 

@@ -7,7 +7,7 @@ use mir.Val.{SFits}
 use mir.Facts.{toZ-ofZ}
 use Rattle.golay.specs.Answers.{refused}
 use Rattle.soft.specs.Answers.{classFigureAnswer}
-use Rattle.drive.proofs.Hands.{hands-value, hands-refusal}
+use Rattle.hands.proofs.Hands.{hands-value, hands-refusal}
 use Rattle.drive.proofs.garthumor_class_figure.Statement.{statement}
 use Rattle.drive.proofs.garthumor_class_figure.Tie as tie
 

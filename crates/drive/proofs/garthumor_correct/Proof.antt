@@ -4,7 +4,7 @@ use mathlib.Core.Path.{ap, sym, _∙_}
 use borrow.Author.Needs.{needs}
 use Rattle.golay.specs.Answers.{refused}
 use Rattle.hard.specs.Answers.{correctAnswer}
-use Rattle.drive.proofs.Hands.{hands-value, hands-refusal}
+use Rattle.hands.proofs.Hands.{hands-value, hands-refusal}
 use Rattle.drive.proofs.garthumor_correct.Statement.{statement}
 use Rattle.drive.proofs.garthumor_correct.Tie as tie
 

@@ -3,7 +3,7 @@
 use mathlib.Core.Path.{ap, sym, _∙_}
 use borrow.Author.Needs.{needs}
 use Rattle.golay.specs.Answers.{refused, encodeAnswer}
-use Rattle.drive.proofs.Hands.{hands-value, hands-refusal}
+use Rattle.hands.proofs.Hands.{hands-value, hands-refusal}
 use Rattle.drive.proofs.garthumor_encode.Statement.{statement}
 use Rattle.drive.proofs.garthumor_encode.Tie as tie
 

@@ -7,7 +7,7 @@ use mir.Val.{SFits}
 use mir.Facts.{toZ-ofZ}
 use Rattle.golay.specs.Answers.{refused}
 use Rattle.soft.specs.Answers.{softAnswer}
-use Rattle.drive.proofs.Hands.{hands-value, hands-refusal}
+use Rattle.hands.proofs.Hands.{hands-value, hands-refusal}
 use Rattle.drive.proofs.garthumor_soft.Statement.{statement}
 use Rattle.drive.proofs.garthumor_soft.Tie as tie
 

@@ -3,8 +3,8 @@
 use mathlib.Core.Path.{ap, sym, _∙_}
 use borrow.Author.Needs.{needs}
 use Rattle.bytewise.specs.Answers.{writeBytesAnswer}
-use Rattle.drive.specs.Drive.{returned}
-use Rattle.drive.proofs.Hands.{hands-bytes}
+use Rattle.hands.specs.Hands.{returned}
+use Rattle.hands.proofs.Hands.{hands-bytes}
 use Rattle.drive.proofs.garthumor_write_bytes.Statement.{statement}
 use Rattle.drive.proofs.garthumor_write_bytes.Tie as tie
 

@@ -2,11 +2,8 @@
 use mathlib.Core.Path.{_≡_}
 use mathlib.Core.List.{List}
 use Prim.Native.Nat.{ℕ}
-use lib.IntN.{ℤ}
 use Rattle.golay.specs.Answers.{Answer, accepted, refused}
-use Rattle.hard.specs.Answers.{Correction}
 use Rattle.candidates.specs.Calls.{WritesCandidates}
-use Rattle.soft.specs.declared.kinds.Soft.{Soft}
 
 module _ {A : Type 0} where
   -- Rule 11.7: 0 for an answer, which is no refusal's number, else the refusal's
@@ -33,18 +30,6 @@ pub record HandsBackOne {A M : Type 0} (Allowed : Answer A → Type 0) (made : A
 -- outputs that hold the values as they are
 abbrev pub itself : {A : Type 0} → A → A
 itself x = x
-
--- several outputs as one value
-abbrev pub correction : ℕ → ℕ → Correction
-correction codeword distance = record { codeword = codeword; distance = distance }
-
-abbrev pub values : ℕ → ℕ → ℤ → ℤ → Soft
-values message codeword correlation reserve = record {
-  message = record { 0 = message };
-  codeword = record { 0 = codeword };
-  correlation = correlation;
-  reserve = reserve;
-}
 
 -- Rules 5.7, 5.8 and 11.5: the candidate call's status, and what the slots hold
 pub record HandsBackCandidates (word : ℕ) (before after : List ℕ) (status : ℕ) : Type 0 where

@@ -1,15 +1,46 @@
--- What a call hands back, from what the call below it answered.
+-- What a call for C hands back: its status tells an answer from a refusal, it follows from what the call below answered, and two returns that a
+-- promise allows are equal.
 -- Assumes nothing.
 use mathlib.Core.Path.{_≡_, refl, sym, ap, _∙_}
 use mathlib.Core.List.{List}
-use Prim.Native.Nat.{ℕ}
+use Prim.Native.Nat.{ℕ, _<_}
+use lib.Dec.{lit<}
+use Rattle.golay.specs.declared.kinds.Refusal.{Refusal}
+use Rattle.golay.specs.declared.kinds.Refusal.the-variants.{WrongLength, MostNegative, MessageAbove, WordAbove, NotCodeword, Tied, DistanceFour, NotDistanceFour, NoMark, CutShort, ClassAbove}
+use Rattle.golay.specs.Refusals.{number}
 use Rattle.golay.specs.Answers.{Answer, accepted, refused}
 use Rattle.bytewise.specs.Answers.{lent}
 use Rattle.bytewise.specs.Bytes.{bytesOf}
 use Rattle.bytewise.specs.Calls.{writeBytesRule, WritesBytes}
 use Rattle.candidates.proofs.Decided.{candidates-once, slots-once}
-use Rattle.drive.specs.Drive.{HandsBack, HandsBackOne, HandsBackCandidates, returned, output}
+use Rattle.hands.specs.Hands.{HandsBack, HandsBackOne, HandsBackCandidates, returned, output}
 
+-- no refusal has the number 0
+number-above-zero : (reason : Refusal) → 0 < number reason
+number-above-zero WrongLength = lit< tt
+number-above-zero MostNegative = lit< tt
+number-above-zero MessageAbove = lit< tt
+number-above-zero WordAbove = lit< tt
+number-above-zero NotCodeword = lit< tt
+number-above-zero Tied = lit< tt
+number-above-zero DistanceFour = lit< tt
+number-above-zero NotDistanceFour = lit< tt
+number-above-zero NoMark = lit< tt
+number-above-zero CutShort = lit< tt
+number-above-zero ClassAbove = lit< tt
+
+-- Rule 11.7: a call that answers returns 0, and one that refuses its refusal's number, which is above 0
+module _ {A M : Type 0} {made : A → M} {before after : M} {status : ℕ} where
+  pub answered-returns-zero : {x : A} → HandsBack (accepted x) made before after status → status ≡ 0
+  answered-returns-zero p = p .status-is
+
+  pub refused-returns-number : (reason : Refusal) → HandsBack (refused (number reason)) made before after status → status ≡ number reason
+  refused-returns-number reason p = p .status-is
+
+  pub refused-above-zero : (reason : Refusal) → HandsBack (refused (number reason)) made before after status → 0 < status
+  refused-above-zero reason p = rw (refused-returns-number reason p) (number-above-zero reason)
+
+-- from what the call below answered
 module _ {A M : Type 0} {answer : Answer A} {made : A → M} {before : M} where
   pub hands-value : {x : A} → accepted x ≡ answer → HandsBack answer made before (made x) 0
   hands-value e = rw (← e) (record { status-is = refl; output-is = refl })
