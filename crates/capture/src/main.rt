@@ -5,7 +5,7 @@ ghost use Prim.Native.Nat.{_+_, _%_, _≤_};
 ghost use lib.ListN.{length};
 ghost use Rattle.records.specs.Records.{recordLength};
 ghost use Rattle.lines.specs.Lines.{longest};
-ghost use Rattle.run.specs.Pieces.{wholes};
+ghost use Rattle.pieces.specs.Pieces.{wholes};
 ghost use Rattle.run.specs.Runs.{Room};
 use libc::STDERR_FILENO;
 use libc::STDIN_FILENO;

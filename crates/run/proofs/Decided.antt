@@ -10,6 +10,7 @@ use lib.ListN.{length}
 use borrow.Author.Tests.{leb-true, leb-false, ltb-true, ltb-false}
 use Rattle.lines.specs.Lines.{longest}
 use Rattle.answers.proofs.Decoding.{a-decoder}
+use Rattle.pieces.proofs.Pieces.{keeps-once}
 use Rattle.run.specs.declared.kinds.Outcome.{Outcome}
 use Rattle.run.specs.declared.kinds.Turned.{Turned}
 use Rattle.run.specs.Runs.{Room, Runs, RunRule, Turns, TurnRoom, TurnRule}
@@ -75,7 +76,8 @@ turn-once {offset} {count} {held} {before} {after} {later} {kept} {rest} {r} {s}
         let T = R .room room in
         let U = S .room room in
         let (e, o) = runs-once (T .ran) (U .ran) in
-        (e, T .front ∙ sym (U .front), turned-same o (T .left ∙ sym (U .left)) (T .next ∙ sym (U .next)))
+        let (k, l) = keeps-once (T .keeps) (U .keeps) in
+        (e, k, turned-same o l (T .next ∙ sym (U .next)))
     cases (no none) = let (a, b, p) = R .none none in let (c, d, q) = S .none none in (a ∙ sym c, b ∙ sym d, p ∙ sym q)
 
 -- the text of a run fits its buffer

@@ -1,3 +1,2 @@
 pub mod Upto
-pub mod Turns
 pub mod Decided

@@ -2,16 +2,15 @@
 use mathlib.Core.Path.{_≡_}
 use mathlib.Core.Bool.{Bool, true, false}
 use mathlib.Core.List.{List}
-use Prim.Native.Nat.{ℕ, _+_, _%_, _≤_, _<_, _^_}
+use Prim.Native.Nat.{ℕ, _+_, _≤_, _<_, _^_}
 use lib.IntN.{ℤ}
-use lib.ListN.{length, take, drop}
+use lib.ListN.{length, take}
 use Rattle.golay.specs.Answers.{Answer}
-use Rattle.records.specs.Records.{recordLength}
 use Rattle.lines.specs.Lines.{longest}
-use Rattle.texts.specs.Buffers.{put, Puts}
+use Rattle.texts.specs.Buffers.{Puts}
 use Rattle.records.specs.Capture.{stopsFrom, linesFrom}
 use Rattle.answers.specs.Decoding.{Decoder}
-use Rattle.run.specs.Pieces.{wholes}
+use Rattle.pieces.specs.Pieces.{wholes, Keeps}
 use Rattle.run.specs.declared.kinds.Outcome.{Outcome}
 use Rattle.run.specs.declared.kinds.Turned.{Turned}
 
@@ -40,12 +39,11 @@ pub record RunRule (offset : ℕ) (bytes before after : List ℕ) (r : Outcome) 
   pub room : Room offset (length bytes) (length before) → Runs offset bytes before after r
   pub none : (Room offset (length bytes) (length before) → ⊥) → (after ≡ before) × (r ≡ unrun)
 
--- one turn over the first bytes that are held: the run over the whole records among them; then what is left of them stands in front, from its
+-- one turn over the first bytes that are held: the run over the whole records among them; then what is left of them is kept, from its
 -- own offset on
 pub record Turns (offset count : ℕ) (held before after kept : List ℕ) (r : Turned) : Type 0 where
   pub ran : Runs offset (take (wholes count) held) before after (r .outcome)
-  pub front : kept ≡ put (drop (wholes count) (take count held)) held 0
-  pub left : r .left ≡ count % recordLength
+  pub keeps : Keeps count held kept (r .left)
   pub next : r .next ≡ offset + wholes count
 
 -- room for a turn: the bytes are there, and their text has room

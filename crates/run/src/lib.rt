@@ -1,9 +1,7 @@
 // The run over bytes of a capture: each record's line, and the line where it stopped, into a lent buffer. Where there is no room nothing is
 // written, and the outcome says so.
-ghost use mathlib.Core.Path.{_≡_};
-ghost use Prim.Native.Nat.{_-_, _≤_};
-ghost use lib.ListN.{length, drop};
-ghost use lib.Seq.{paste};
+ghost use Prim.Native.Nat.{_≤_};
+ghost use lib.ListN.{length};
 ghost use Rattle.run.specs.Runs.{Room, Lacks, Runs, RunRule, Turns, TurnRule};
 
 pub mod kinds;
@@ -12,7 +10,6 @@ use kinds::Outcome;
 use kinds::Turned;
 use kinds::unrun;
 use lines::LONGEST;
-use records::RECORD;
 use records::kinds::Step;
 
 // Whether a buffer of a length has no room for the text of some bytes, or 64 bits have none for their offsets.
@@ -70,29 +67,15 @@ pub fn run(bytes: &[u8], offset: u64, out: &mut [u8]) -> Outcome
     run_through(bytes, offset, out)
 }
 
-// Moves the bytes from a place up to an end to the front.
-fn keep(held: &mut [u8], from: usize, end: usize)
-    requires { ⌜ from ≤ end ⌝ }
-    requires { ⌜ end ≤ length (now held) ⌝ }
-    ensures { λ _. ⌜ now (held .exit) ≡ paste (now (held .entry)) 0 (drop from (now (held .entry))) (end - from) ⌝ }
-{
-    let mut i: usize = 0;
-    while i < end - from {
-        held[i] = held[from + i];
-        i += 1;
-    }
-}
-
 // A turn that has room.
 fn take_turn(held: &mut [u8], count: usize, offset: u64, out: &mut [u8]) -> Turned
     requires { ⌜ count ≤ length (now held) ⌝ }
     requires { ⌜ Room offset count (length (now out)) ⌝ }
     ensures { λ r. ⌜ Turns offset count (now (held .entry)) (now (out .entry)) (now (out .exit)) (now (held .exit)) r ⌝ }
 {
-    let left = count % RECORD;
-    let whole = count - left;
+    let whole = pieces::whole(count);
     let outcome = run_through(&held[..whole], offset, out);
-    keep(held, whole, count);
+    let left = pieces::keep(held, count);
     let next = offset + whole as u64;
     Turned {
         outcome: outcome,

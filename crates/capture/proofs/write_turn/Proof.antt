@@ -1,9 +1,12 @@
 -- `capture::write_turn` meets its contract, by that of `turn`, and its text fits its buffer.
 -- Assumes nothing.
 use mathlib.Core.Path.{_≡_}
+use Prim.Native.Nat.{_+_, _%_}
 use native.Mathlib.Omega.{arith}
 use borrow.Author.Needs.{needs}
 use lib.ListN.{length}
+use Rattle.records.specs.Records.{recordLength}
+use Rattle.pieces.specs.Pieces.{wholes}
 use Rattle.run.specs.Runs.{Turns}
 use Rattle.run.proofs.Decided.{run-fits}
 use Rattle.capture.proofs.write_turn.Statement.{statement}
@@ -13,6 +16,11 @@ turned : (c : tie.After-turn)
     → let args = c .before .before .before .before .before .args in
     Turns (args .offset) (args .count) (args .held .now) (args .text .now) (c .turn .last .1 .1 .1 .0) (c .turn .last .0) (c .turn .result)
 turned c = let entered = c .before .before .before .before .before in c .turn .ensures .room (record { bytes = entered .pre .0; text = entered .pre .1 })
+
+told : (c : tie.After-turn)
+    → let args = c .before .before .before .before .before .args in
+    (c .turn .result .left ≡ args .count % recordLength) × (c .turn .result .next ≡ args .offset + wholes (args .count))
+told c = let T = turned c in (T .keeps .there (c .before .before .before .before .before .pre .0) .1, T .next)
 
 turn-requires : tie.Need-turn-requires
 turn-requires c κs = search needs
@@ -31,7 +39,7 @@ same-length-2 : tie.Need-same-length-2
 same-length-2 c = search needs
 
 returns : tie.Need-returns
-returns c = let T = turned (c .before .before .before .before .before .before .before .before .before) in (T .left, T .next)
+returns c = told (c .before .before .before .before .before .before .before .before .before)
 
 same-length-3 : tie.Need-same-length-3
 same-length-3 c = search needs
@@ -40,7 +48,7 @@ same-length-4 : tie.Need-same-length-4
 same-length-4 c = search needs
 
 returns-2 : tie.Need-returns-2
-returns-2 c = let T = turned (c .before .before .before .before .before .before .before .before) in (T .left, T .next)
+returns-2 c = told (c .before .before .before .before .before .before .before .before)
 
 pub write-turn-spec : {M : Type 1} → statement M
 write-turn-spec =

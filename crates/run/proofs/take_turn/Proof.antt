@@ -1,34 +1,40 @@
--- `run::take_turn` meets its contract: the run is over the whole records in front, and what is kept is the rest.
+-- `run::take_turn` meets its contract: the run is over the whole records in front, and what is left of the bytes is kept.
 -- Assumes nothing.
-use mathlib.Core.Path.{sym}
+use mathlib.Core.Path.{_≡_, sym, ap}
+use Prim.Native.Nat.{ℕ, _+_}
 use native.Mathlib.Omega.{arith}
 use borrow.Author.Needs.{needs}
-use Rattle.run.proofs.Turns.{long-front, turn-done}
+use lib.ListN.{length, take}
+use lib.Seq.{length-take-le}
 use Rattle.run.proofs.take_turn.Statement.{statement}
 use Rattle.run.proofs.take_turn.Tie as tie
 
-sub-whole : tie.Need-sub-whole
-sub-whole c = search needs
+-- the whole records, by their length
+long-front : (c : tie.After-whole)
+    → length (take (c .whole .result) (c .before .before .before .args .held .now)) ≡ c .whole .result
+long-front c = length-take-le (c .whole .result) (c .before .before .before .args .held .now) (search needs)
+
+whole-requires : tie.Need-whole-requires
+whole-requires c κs = search needs
 
 slice-reshare-prefix-run-through : tie.Need-slice-reshare-prefix-run-through
 slice-reshare-prefix-run-through c = search needs
 
 slice-aggregate-run-through : tie.Need-slice-aggregate-run-through
-slice-aggregate-run-through c = let args = c .before .before .before .args in sym (long-front (args .held .now) (args .count) (search needs))
+slice-aggregate-run-through c = sym (long-front (c .before))
 
 run-through-requires : tie.Need-run-through-requires
 run-through-requires c κs =
-    let entered = c .before .before .before .before in
-    let held = entered .args .held .now in
-    let count = entered .args .count in
-    let e = long-front held count (search needs) in
-    record { lines = omega (arith, entered .pre .1 .lines, e); offsets = omega (arith, entered .pre .1 .offsets, e) }
+    let counted = c .before .before in
+    let room = counted .before .before .before .pre .1 in
+    let e = long-front counted in
+    record { lines = omega (arith, room .lines, counted .whole .ensures, e); offsets = omega (arith, room .offsets, counted .whole .ensures, e) }
 
 keep-requires : tie.Need-keep-requires
 keep-requires c κs = search needs
 
 add-next : tie.Need-add-next
-add-next c = omega (arith, c .before .before .before .before .before .before .before .before .before .before .before .pre .1 .offsets)
+add-next c = search needs
 
 same-length : tie.Need-same-length
 same-length c = search needs
@@ -38,15 +44,21 @@ same-length-2 c = search needs
 
 returns : tie.Need-returns
 returns c =
-    let ran = c .before .before .before .before .before .before in
-    let args = ran .before .before .before .before .before .args in
-    turn-done (args .held .now) (args .count) (search needs) (args .offset) (ran .run-through .result) (ran .run-through .ensures) (c .before .before .keep .ensures)
+    let kept = c .before .before in
+    let ran = kept .before .before .before .before in
+    let counted = ran .before .before .before in
+    let e = counted .whole .ensures in
+    record {
+      ran = rw e at (ran .run-through .ensures);
+      keeps = kept .keep .ensures;
+      next = ap (λ (n : ℕ). counted .before .before .before .args .offset + n) e;
+    }
 
 pub take-turn-spec : {M : Type 1} → statement M
 take-turn-spec =
     tie.close
     (tie.spec
-    sub-whole
+    whole-requires
     slice-reshare-prefix-run-through
     slice-aggregate-run-through
     run-through-requires

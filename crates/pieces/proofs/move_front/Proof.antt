@@ -1,4 +1,4 @@
--- `run::keep` meets its contract. The invariant: i bytes are moved, and those from i on are as they were, so that each is read before
+-- `pieces::move_front` meets its contract. The invariant: i bytes are moved, and those from i on are as they were, so that each is read before
 -- it is written over.
 -- Assumes nothing.
 use mathlib.Core.Path.{_≡_, refl, sym, ap, _∙_}
@@ -10,8 +10,8 @@ use native.Mathlib.Omega.{arith}
 use borrow.Author.Needs.{needs}
 use lib.ListN.{length, getD, set, drop, length-set, length-drop}
 use lib.Seq.{paste, paste-zero, paste-suc, drop-paste, getD-drop}
-use Rattle.run.proofs.keep.Statement.{statement}
-use Rattle.run.proofs.keep.Tie as tie
+use Rattle.pieces.proofs.move_front.Statement.{statement}
+use Rattle.pieces.proofs.move_front.Tie as tie
 
 -- the first i bytes from a place on, in front
 abbrev moved : List ℕ → ℕ → ℕ → List ℕ
@@ -91,8 +91,8 @@ returns c =
     let all : c .before .loop .i ≡ args .end - args .from = omega arith in
     c .before .loop .inv .1 ∙ ap (moved (args .held .now) (args .from)) all
 
-pub keep-spec : {M : Type 1} → statement M
-keep-spec =
+pub move-front-spec : {M : Type 1} → statement M
+move-front-spec =
     tie.close
     (tie.spec
     Inv-loop

@@ -1,64 +1,75 @@
--- Turn by turn: a turn runs through the whole records that are held and leaves the rest, and the turns over any pieces of a capture give the
--- text of the capture.
+-- Turn by turn: what is left of a piece after its whole records is kept, and the turns over any pieces of a capture give the text of the
+-- capture, whatever is told of its records.
 -- Assumes nothing.
 use mathlib.Core.Path.{_≡_, refl, sym, ap, _∙_}
-use mathlib.Core.Bool.{cond}
+use mathlib.Core.Bool.{Bool, true, false, cond}
 use mathlib.Core.List.{List, [], _∷_, _++_, append-assoc, append-nil}
 use Prim.Native.Nat.{ℕ, _+_, _-_, _*_, _/_, _%_, _≤_}
 use native.Mathlib.Nat.{zero-add}
 use native.Mathlib.Omega.{arith}
+use lib.Dec.{leb}
 use lib.IntN.{ℤ}
 use lib.ListN.{length, take, drop, length-drop, take-append-drop}
 use lib.Seq.{paste, take-add, drop-at, length-take-le}
+use borrow.Author.Tests.{leb-true, leb-false}
 use Rattle.golay.specs.Answers.{Answer}
 use Rattle.records.specs.Records.{recordLength}
 use Rattle.records.specs.Capture.{stopsFrom, linesFrom}
 use Rattle.records.proofs.Texts.{lines-piece}
 use Rattle.texts.specs.Buffers.{put}
 use Rattle.texts.proofs.Buffers.{take-put}
-use Rattle.run.specs.declared.kinds.Outcome.{Outcome}
-use Rattle.run.specs.declared.kinds.Turned.{Turned}
-use Rattle.run.specs.Pieces.{wholes, allPieces, turnsFrom}
-use Rattle.run.specs.Runs.{Runs, Turns}
+use Rattle.pieces.specs.Pieces.{wholes, leftOf, Keeps, allPieces, turnsFrom}
 
 module _ (held : List ℕ) (count : ℕ) (h : count ≤ length held) where
   pub long-front : length (take (wholes count) held) ≡ wholes count
   long-front = length-take-le (wholes count) held (omega arith)
 
   -- what is left, as the bytes that are moved
-  rest : drop (wholes count) (take count held) ≡ take (count % recordLength) (drop (wholes count) held)
-  rest =
+  left : leftOf count held ≡ take (count % recordLength) (drop (wholes count) held)
+  left =
       let e : count ≡ wholes count + count % recordLength = omega arith in
       ap (λ (k : ℕ). drop (wholes count) (take k held)) e
       ∙ ap (drop (wholes count)) (take-add (wholes count) (count % recordLength) held)
       ∙ drop-at (take (wholes count) held) (take (count % recordLength) (drop (wholes count) held)) (wholes count) long-front
 
-  length-rest : length (drop (wholes count) (take count held)) ≡ count % recordLength
-  length-rest = simp (length-drop, length-take-le count held h) (omega arith)
+  length-left : length (leftOf count held) ≡ count % recordLength
+  length-left = simp (length-drop, length-take-le count held h) (omega arith)
 
-  moved : paste held 0 (drop (wholes count) held) (count - wholes count) ≡ put (drop (wholes count) (take count held)) held 0
+  moved : paste held 0 (drop (wholes count) held) (count - wholes count) ≡ put (leftOf count held) held 0
   unfolding put
   moved =
       let n : count - wholes count ≡ count % recordLength = omega arith in
       ap (paste held 0 (drop (wholes count) held)) n
-      ∙ (λ i. take 0 held ++ sym rest i ++ drop (0 + sym length-rest i) held)
+      ∙ (λ i. take 0 held ++ sym left i ++ drop (0 + sym length-left i) held)
 
-  pub turn-done :
-      (offset : ℕ) {before after kept : List ℕ} (r : Outcome)
-      → Runs offset (take (wholes count) held) before after r
-      → kept ≡ paste held 0 (drop (wholes count) held) (count - wholes count)
-      → Turns offset count held before after kept (record { outcome = r; left = count % recordLength; next = offset + wholes count })
-  turn-done offset r ran e = record { ran = ran; front = e ∙ moved; left = refl; next = refl }
+  pub keep-done :
+      {kept : List ℕ} (from : ℕ)
+      → from ≡ wholes count
+      → kept ≡ paste held 0 (drop from held) (count - from)
+      → Keeps count held kept (count - from)
+  keep-done from e moves = record {
+    there = λ t. (moves ∙ ap (λ (k : ℕ). paste held 0 (drop k held) (count - k)) e ∙ moved, omega (arith, e));
+    missing = λ l. absurd (omega arith);
+  }
 
   -- the next turn begins with what this one left
-  pub left-in-front :
-      {offset : ℕ} {before after kept : List ℕ} {r : Turned}
-      → Turns offset count held before after kept r
-      → take (r .left) kept ≡ drop (wholes count) (take count held)
-  left-in-front T =
-      let rest = drop (wholes count) (take count held) in
-      (λ i. take ((T .left ∙ sym length-rest ∙ sym (zero-add (length rest))) i) (T .front i))
-      ∙ take-put rest held 0 (omega (arith, length-rest))
+  pub left-in-front : {kept : List ℕ} {r : ℕ} → Keeps count held kept r → take r kept ≡ leftOf count held
+  left-in-front K =
+      let k = K .there h in
+      (λ i. take ((k .1 ∙ sym length-left ∙ sym (zero-add (length (leftOf count held)))) i) (k .0 i))
+      ∙ take-put (leftOf count held) held 0 (omega (arith, length-left))
+
+-- two outcomes that the promise of what is kept allows are equal: the bytes, and how many are left
+pub keeps-once : {count : ℕ} {held kept rest : List ℕ} {r s : ℕ} → Keeps count held kept r → Keeps count held rest s → (kept ≡ rest) × (r ≡ s)
+keeps-once {count} {held} {kept} {rest} {r} {s} K L = cases (leb count (length held)) refl
+  where
+    cases : (b : Bool) → leb count (length held) ≡ b → (kept ≡ rest) × (r ≡ s)
+    cases true e =
+        let h = leb-true count (length held) e in
+        (K .there h .0 ∙ sym (L .there h .0), K .there h .1 ∙ sym (L .there h .1))
+    cases false e =
+        let h = leb-false count (length held) e in
+        (K .missing h .0 ∙ sym (L .missing h .0), K .missing h .1 ∙ sym (L .missing h .1))
 
 -- what is told of bytes, where whole records in front are told before the rest
 module _ (told : ℕ → List ℕ → List ℕ)
