@@ -17,7 +17,7 @@ cost error [] = 0
 cost error (x ∷ xs) = error / 2 ^ length xs % 2 * natAbs x + cost error xs
 
 -- the first n confidences of a slice, and 0 for each that is missing; a slice of n is itself
-unfoldable pub firstOf : ℕ → List ℤ → List ℤ
-firstOf zero xs = []
-firstOf (suc n) [] = pos 0 ∷ firstOf n []
-firstOf (suc n) (x ∷ xs) = x ∷ firstOf n xs
+unfoldable pub padded : ℕ → List ℤ → List ℤ
+padded zero xs = []
+padded (suc n) [] = pos 0 ∷ padded n []
+padded (suc n) (x ∷ xs) = x ∷ padded n xs

@@ -7,7 +7,7 @@ ghost use lib.ListN.{getD};
 ghost use Rattle.signed.specs.Sign.{sign};
 ghost use Rattle.contest.specs.Words.{one};
 ghost use Rattle.code.specs.Code.{positions, words};
-ghost use Rattle.signs.specs.Signs.{firstOf, signWord};
+ghost use Rattle.signs.specs.Signs.{padded, signWord};
 ghost use Rattle.signs.specs.Signs as rule;
 use golay::POSITIONS;
 
@@ -27,7 +27,7 @@ fn sign_bit(reading: &[i32], i: usize) -> u32
 
 // The signs as a word, position 1 first.
 pub fn sign_word(reading: &[i32]) -> u32
-    ensures { λ r. ⌜ (r ≡ signWord (firstOf positions (now (reading .entry)))) × (r < words) ⌝ }
+    ensures { λ r. ⌜ (r ≡ signWord (padded positions (now (reading .entry)))) × (r < words) ⌝ }
 {
     let mut word: u32 = 0;
     let mut i: usize = 0;
@@ -53,7 +53,7 @@ fn at_stake(error: u32, reading: &[i32], i: usize) -> u64
 
 // What an error costs.
 pub fn cost(error: u32, reading: &[i32]) -> u64
-    ensures { λ r. ⌜ (r ≡ rule.cost error (firstOf positions (now (reading .entry)))) × (r ≤ 51539607552) ⌝ }
+    ensures { λ r. ⌜ (r ≡ rule.cost error (padded positions (now (reading .entry)))) × (r ≤ 51539607552) ⌝ }
 {
     let mut sum: u64 = 0;
     let mut i: usize = 0;

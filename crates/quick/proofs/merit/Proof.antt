@@ -11,7 +11,7 @@ use Rattle.signed.proofs.Parts.{parts}
 use Rattle.signed.proofs.Locals.{cast-diff-fits, cast-diff-reads}
 use Rattle.code.specs.Code.{positions}
 use Rattle.signs.specs.Signs.{cost}
-use Rattle.signs.proofs.First.{first-whole}
+use Rattle.signs.proofs.Padded.{padded-whole}
 use Rattle.quick.proofs.merit.Statement.{statement}
 use Rattle.quick.proofs.merit.Tie as tie
 
@@ -27,7 +27,7 @@ sub-result c = cast-diff-fits 0 (c .cost .result) (lit< tt) (omega (arith, c .co
 returns : tie.Need-returns
 returns c =
     let start = c .before in
-    let w = c .cost .ensures .0 ∙ ap (cost (start .args .error)) (first-whole positions (now (start .args .reading)) (start .pre)) in
+    let w = c .cost .ensures .0 ∙ ap (cost (start .args .error)) (padded-whole positions (now (start .args .reading)) (start .pre)) in
     let v = c .cost .result in
     let e = cast-diff-reads 0 v (lit< tt) (omega (arith, c .cost .ensures .1)) ∙ +ℤ-idl (negℤ (pos v)) in
     (e ∙ ap (λ (n : ℕ). negℤ (pos n)) w, rw e (record { within = simp parts (omega (arith, c .cost .ensures .1)) }))

@@ -10,7 +10,7 @@ use Rattle.hard.specs.Answers.{correctAnswer}
 use Rattle.hard.specs.Calls.{Corrects}
 use Rattle.code.specs.Code.{positions}
 use Rattle.signs.specs.Signs.{signWord}
-use Rattle.signs.proofs.First.{first-whole}
+use Rattle.signs.proofs.Padded.{padded-whole}
 use Rattle.quick.specs.Quick.{Chosen, Follows, quickAnswer}
 use Rattle.quick.proofs.Choosing.{refused-four}
 use Rattle.quick.proofs.Rules.{quick-length, quick-negative, quick-decides}
@@ -57,7 +57,7 @@ returns-3 c =
     let start = checked .before .before in
     let xs = now (start .args .reading) in
     let l = checked .before .if1 .left in
-    let w = signs .sign-word .ensures .0 ∙ ap signWord (first-whole positions xs l) in
+    let w = signs .sign-word .ensures .0 ∙ ap signWord (padded-whole positions xs l) in
     quick-decides xs l (sym (checked .most-negative .ensures .is) ∙ signs .before .if2 .left)
     (record {
       correction = correctAnswer (corrected .correct .result);
@@ -74,7 +74,7 @@ returns-4 c =
     let start = checked .before .before in
     let xs = now (start .args .reading) in
     let l = checked .before .if1 .left in
-    let w = signs .sign-word .ensures .0 ∙ ap signWord (first-whole positions xs l) in
+    let w = signs .sign-word .ensures .0 ∙ ap signWord (padded-whole positions xs l) in
     quick-decides xs l (sym (checked .most-negative .ensures .is) ∙ signs .before .if2 .left)
     (record {
       correction = correctAnswer (corrected .correct .result);

@@ -8,15 +8,15 @@ use lib.IntN.{ℤ, natAbs, pos}
 use lib.ListN.{length, drop, getD}
 use denote.Ref.{now}
 use borrow.Author.Needs.{needs}
-use Rattle.signs.specs.Signs.{firstOf}
+use Rattle.signs.specs.Signs.{padded}
 use Rattle.signs.specs.Signs as rule
-use Rattle.signs.proofs.First.{first-length, first-at}
+use Rattle.signs.proofs.Padded.{padded-length, padded-at}
 use Rattle.signs.proofs.Turns.{cost-turn, cost-end}
 use Rattle.signs.proofs.cost.Statement.{statement}
 use Rattle.signs.proofs.cost.Tie as tie
 
 abbrev first : List ℤ → List ℤ
-first = firstOf 24
+first = padded 24
 
 abbrev Inv-loop : tie.InvT-loop
 Inv-loop error reading sum₀ i₀ sum i =
@@ -47,9 +47,9 @@ loop-again c =
     let reading = now (start .args .reading) in
     let xs = first reading in
     let e = start .args .error in
-    let h : l .i < length xs = omega (arith, first-length 24 reading) in
-    let k : length xs - (l .i + 1) ≡ 23 - l .i = omega (arith, first-length 24 reading) in
-    let a = ap (λ (x : ℤ). e / 2 ^ (23 - l .i) % 2 * natAbs x) (first-at 24 reading (l .i) (omega arith)) in (
+    let h : l .i < length xs = omega (arith, padded-length 24 reading) in
+    let k : length xs - (l .i + 1) ≡ 23 - l .i = omega (arith, padded-length 24 reading) in
+    let a = ap (λ (x : ℤ). e / 2 ^ (23 - l .i) % 2 * natAbs x) (padded-at 24 reading (l .i) (omega arith)) in (
       omega arith,
       omega (arith, c .at-stake .ensures .1, l .inv .1),
       omega (arith, c .at-stake .ensures .0, a, cost-turn e xs (l .i) h, ap (λ (n : ℕ). e / 2 ^ n % 2 * natAbs (getD xs (l .i) (pos 0))) k, l .inv .2),
@@ -61,7 +61,7 @@ returns c =
     let start = c .before .before in
     let reading = now (start .args .reading) in
     let e : l .i ≡ 24 = omega arith in
-    (cost-end (start .args .error) (first reading) (l .sum) (l .i) (e ∙ sym (first-length 24 reading)) ∙ l .inv .2, omega (arith, l .inv .1))
+    (cost-end (start .args .error) (first reading) (l .sum) (l .i) (e ∙ sym (padded-length 24 reading)) ∙ l .inv .2, omega (arith, l .inv .1))
 
 pub cost-spec : {M : Type 1} → statement M
 cost-spec =

@@ -14,14 +14,14 @@ use borrow.Author.Needs.{needs}
 use Rattle.signed.specs.Sign.{sign}
 use Rattle.contest.specs.Words.{one}
 use Rattle.contest.proofs.Numbers.{one-small}
-use Rattle.signs.specs.Signs.{signWord, firstOf}
-use Rattle.signs.proofs.First.{first-length, first-at}
+use Rattle.signs.specs.Signs.{signWord, padded}
+use Rattle.signs.proofs.Padded.{padded-length, padded-at}
 use Rattle.signs.proofs.Turns.{sign-turn, sign-end}
 use Rattle.signs.proofs.sign_word.Statement.{statement}
 use Rattle.signs.proofs.sign_word.Tie as tie
 
 abbrev first : List ℤ → List ℤ
-first = firstOf 24
+first = padded 24
 
 abbrev Inv-loop : tie.InvT-loop
 Inv-loop reading word₀ i₀ word i =
@@ -62,8 +62,8 @@ loop-again c =
     let reading = now (c .before .before .before .args .reading) in
     let xs = first reading in
     let b = one (sign (getD xs (l .i) (pos 0))) in
-    let e : c .sign-bit .result ≡ b = c .sign-bit .ensures ∙ ap (λ (x : ℤ). one (sign x)) (sym (first-at 24 reading (l .i) (omega arith))) in
-    let h : l .i < length xs = omega (arith, first-length 24 reading) in (
+    let e : c .sign-bit .result ≡ b = c .sign-bit .ensures ∙ ap (λ (x : ℤ). one (sign x)) (sym (padded-at 24 reading (l .i) (omega arith))) in
+    let h : l .i < length xs = omega (arith, padded-length 24 reading) in (
       omega arith,
       omega (arith, e, one-small (sign (getD xs (l .i) (pos 0))), ap (λ (k : ℕ). 2 ^ k) (add-one (l .i)), pow-suc 2 (l .i), l .inv .1),
       ap (λ (x : ℕ). (2 * l .word + x) * 2 ^ (length xs - (l .i + 1)) + signWord (drop (l .i + 1) xs)) e
@@ -75,7 +75,7 @@ returns c =
     let l = c .before .loop in
     let reading = now (c .before .before .args .reading) in
     let e : l .i ≡ 24 = omega arith in
-    (sign-end (first reading) (l .word) (l .i) (e ∙ sym (first-length 24 reading)) ∙ l .inv .2, omega (arith, l .inv .1, ap (λ (k : ℕ). 2 ^ k) e))
+    (sign-end (first reading) (l .word) (l .i) (e ∙ sym (padded-length 24 reading)) ∙ l .inv .2, omega (arith, l .inv .1, ap (λ (k : ℕ). 2 ^ k) e))
 
 pub sign-word-spec : {M : Type 1} → statement M
 sign-word-spec =
