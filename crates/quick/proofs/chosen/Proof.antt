@@ -1,8 +1,6 @@
 -- `quick::chosen` meets its contract: at distance four the candidate call writes all six.
 -- Assumes nothing.
-use mathlib.Core.Path.{_≡_, refl}
-use mathlib.Core.Logic.{_≢_}
-use native.Mathlib.Omega.{arith}
+use mathlib.Core.Path.{refl}
 use denote.Ref.{now}
 use borrow.Author.Needs.{needs}
 use mir.Syntax.{w64}

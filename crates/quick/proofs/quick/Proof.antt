@@ -1,7 +1,6 @@
 -- `quick::quick` meets its contract, by those of `hard::correct` and of `chosen`.
 -- Assumes nothing.
-use mathlib.Core.Path.{_≡_, refl, ap, sym, _∙_, subst}
-use mathlib.Core.Bool.{true, false}
+use mathlib.Core.Path.{refl, ap, sym, _∙_, subst}
 use Prim.Native.Nat.{ℕ}
 use denote.Ref.{now}
 use borrow.Author.Needs.{needs}
