@@ -1,6 +1,6 @@
 -- Two answers that a promise allows are equal. The promise of `confidences` is an equation, which says so itself.
 -- Assumes nothing.
-use mathlib.Core.Path.{_≡_, refl, sym, ap, _∙_}
+use mathlib.Core.Path.{_≡_, refl, ap}
 use mathlib.Core.List.{List}
 use Prim.Native.Nat.{ℕ}
 use Rattle.golay.proofs.Decided.{said-once, reason, reason-number}

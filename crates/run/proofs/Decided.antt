@@ -3,17 +3,21 @@
 use mathlib.Core.Path.{_≡_, refl, sym, ap, _∙_}
 use mathlib.Core.Bool.{Bool, true, false}
 use mathlib.Core.List.{List}
-use Prim.Native.Nat.{ℕ, _+_, _≤_, _^_}
+use Prim.Native.Nat.{ℕ, zero, suc, _+_, _≤_, _^_}
 use native.Mathlib.Omega.{arith}
 use lib.Dec.{leb, ltb}
-use lib.ListN.{length}
+use lib.IntN.{ℤ}
+use lib.ListN.{length, drop, length-append}
 use borrow.Author.Tests.{leb-true, leb-false, ltb-true, ltb-false}
+use Rattle.golay.specs.Answers.{Answer}
 use Rattle.lines.specs.Lines.{longest}
+use Rattle.records.specs.Records.{recordLength, Standing, ended, stopped, whole, standing}
+use Rattle.records.specs.Capture.{runAt, runIn, stopping, lines}
 use Rattle.answers.proofs.Decoding.{a-decoder}
 use Rattle.pieces.proofs.Pieces.{keeps-once}
 use Rattle.run.specs.declared.kinds.Outcome.{Outcome}
 use Rattle.run.specs.declared.kinds.Turned.{Turned}
-use Rattle.run.specs.Runs.{Room, Runs, RunRule, Turns, TurnRoom, TurnRule}
+use Rattle.run.specs.Runs.{Room, Runs, unrun, RunRule, TurnRoom, TurnRule}
 
 data Decided (P : Type 0) : Type 0 where
   yes : P → Decided P
@@ -79,6 +83,34 @@ turn-once {offset} {count} {held} {before} {after} {later} {kept} {rest} {r} {s}
         let (k, l) = keeps-once (T .keeps) (U .keeps) in
         (e, k, turned-same o l (T .next ∙ sym (U .next)))
     cases (no none) = let (a, b, p) = R .none none in let (c, d, q) = S .none none in (a ∙ sym c, b ∙ sym d, p ∙ sym q)
+
+-- a run that stops tells it: so no run that has room ends as one that has none
+module _ (decode : List ℤ → Answer (ℕ × ℕ)) where
+  stop-told :
+      (fuel offset : ℕ) (left : List ℕ)
+      → runIn stopping fuel offset left ≡ true
+      → 1 ≤ length (runIn (lines decode) fuel offset left)
+  unfolding runIn
+  stop-told zero offset left e = let z : _≡_ {A = ℕ} 0 1 = cc in absurd (omega arith)
+  stop-told (suc fuel) offset left e =
+      let later = offset + recordLength in
+      let rest = drop recordLength left in
+      cases (runIn stopping fuel later rest) (runIn (lines decode) fuel later rest) (standing left) (stop-told fuel later rest) e
+    where
+      cases :
+          (stops : Bool) (text : List ℕ) (s : Standing (List ℤ))
+          → (stops ≡ true → 1 ≤ length text)
+          → runAt stopping offset stops s ≡ true
+          → 1 ≤ length (runAt (lines decode) offset text s)
+      cases stops text ended told e = let z : _≡_ {A = ℕ} 0 1 = cc in absurd (omega arith)
+      cases stops text (stopped n) told e = simp length-append (omega arith)
+      cases stops text (whole reading) told e = simp length-append (omega (arith, told e))
+
+pub never-unrun : {offset : ℕ} {bytes before after : List ℕ} {r : Outcome} → Runs offset bytes before after r → r ≡ unrun → ⊥
+never-unrun {offset} {bytes} R e =
+    let p = R .text (a-decoder .0) (a-decoder .1) in
+    let s = stop-told (a-decoder .0) (length bytes) offset bytes (sym (R .stopped) ∙ ap (λ (o : Outcome). o .stopped) e) in
+    omega (arith, p .place, ap (λ (o : Outcome). o .put) e, s)
 
 -- the text of a run fits its buffer
 pub run-fits : {offset : ℕ} {bytes before after : List ℕ} {r : Outcome} → Runs offset bytes before after r → r .put ≤ length before

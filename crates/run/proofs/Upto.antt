@@ -3,14 +3,14 @@
 -- Assumes nothing.
 use mathlib.Core.Path.{_≡_, refl, sym, ap, _∙_}
 use mathlib.Core.Bool.{true, false}
-use mathlib.Core.List.{List, [], _∷_, _++_, append-assoc, append-nil}
+use mathlib.Core.List.{List, [], _++_, append-assoc, append-nil}
 use Prim.Native.Nat.{ℕ, _+_, _≤_, _<_, _^_}
 use native.Mathlib.Nat.{add-zero}
 use native.Mathlib.Omega.{arith}
 use lib.IntN.{ℤ}
 use lib.ListN.{length, drop}
 use Rattle.golay.specs.Answers.{Answer}
-use Rattle.records.specs.Records.{recordLength, Standing, ended, stopped, whole, standsAt, nextFrom, readingOf}
+use Rattle.records.specs.Records.{recordLength, ended, stopped, whole, standsAt, nextFrom, readingOf}
 use Rattle.lines.specs.Lines.{answerLine, stoppedLine, longest}
 use Rattle.texts.specs.Buffers.{put, Puts, Writes}
 use Rattle.records.specs.Capture.{stopping, stopsFrom, lines, linesFrom}

@@ -30,7 +30,8 @@ pub record Runs (offset : ℕ) (bytes before after : List ℕ) (r : Outcome) : T
   pub text : (decode : List ℤ → Answer (ℕ × ℕ)) → Decoder decode → Puts (linesFrom decode offset bytes) before 0 after (r .put)
   pub stopped : r .stopped ≡ stopsFrom offset bytes
 
--- the outcome of a run that has no room. No other is like it: a run that stopped has put the line of its stop
+-- the outcome of a run that has no room. No other is like it, since a run that stops puts the line of its stop: `never-unrun`,
+-- proofs/Decided.antt
 abbrev pub unrun : Outcome
 unrun = record { put = 0; stopped = true }
 
