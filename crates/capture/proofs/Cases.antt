@@ -10,7 +10,8 @@ use Rattle.reading.specs.Cases.{allOnes, allZeros}
 use Rattle.soft.proofs.Cases.{ones-answered, zeros-refused}
 use Rattle.texts.specs.Texts.{decimal}
 use Rattle.records.specs.Records.{twosComplement, confidencesOf, standing}
-use Rattle.records.specs.Capture.{runIn, output}
+use Rattle.records.specs.Capture.{runIn}
+use Rattle.run.specs.Output.{output}
 use Rattle.answers.specs.Decoding.{messageAndReserve, Decoder}
 use Rattle.capture.specs.Cases.{capture, captureText}
 

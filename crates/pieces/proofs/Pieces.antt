@@ -8,14 +8,11 @@ use Prim.Native.Nat.{ℕ, _+_, _-_, _*_, _/_, _%_, _≤_}
 use native.Mathlib.Nat.{zero-add}
 use native.Mathlib.Omega.{arith}
 use lib.Dec.{leb}
-use lib.IntN.{ℤ}
 use lib.ListN.{length, take, drop, length-drop, take-append-drop}
 use lib.Seq.{paste, take-add, drop-at, length-take-le}
 use borrow.Author.Tests.{leb-true, leb-false}
-use Rattle.golay.specs.Answers.{Answer}
 use Rattle.records.specs.Records.{recordLength}
-use Rattle.records.specs.Capture.{stopsFrom, linesFrom}
-use Rattle.records.proofs.Texts.{lines-piece}
+use Rattle.records.specs.Capture.{stopsFrom}
 use Rattle.texts.specs.Buffers.{put}
 use Rattle.texts.proofs.Buffers.{take-put}
 use Rattle.pieces.specs.Pieces.{wholes, leftOf, Keeps, allPieces, turnsFrom}
@@ -91,9 +88,3 @@ module _ (told : ℕ → List ℕ → List ℕ)
       (sym (append-assoc (take n bytes) (drop n bytes) (allPieces pieces))
       ∙ ap (λ (l : List ℕ). l ++ allPieces pieces) (take-append-drop n bytes)
       ∙ append-assoc held piece (allPieces pieces))
-
-module _ (decode : List ℤ → Answer (ℕ × ℕ)) where
-  pub turns-text :
-      (offset : ℕ) (held : List ℕ) (pieces : List (List ℕ))
-      → turnsFrom (linesFrom decode) offset held pieces ≡ linesFrom decode offset (held ++ allPieces pieces)
-  turns-text = pieces-told (linesFrom decode) (lines-piece decode)

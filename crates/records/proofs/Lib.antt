@@ -1,4 +1,4 @@
 pub mod Readings
 pub mod Standing
-pub mod Texts
+pub mod Running
 pub mod Decided

@@ -1,12 +1,10 @@
--- Rules 12.2 to 12.4 and 13.1: all that a capture's run prints, as a function of its bytes, over any decoder: what a reading is answered by.
+-- Rules 12.2 to 12.4: the run over a capture as a function of its bytes, for whatever is told of its records.
 use mathlib.Core.Bool.{Bool, true, false}
-use mathlib.Core.List.{List, [], _++_}
+use mathlib.Core.List.{List}
 use Prim.Native.Nat.{ℕ, zero, suc, _+_}
 use lib.IntN.{ℤ}
 use lib.ListN.{length, drop}
-use Rattle.golay.specs.Answers.{Answer}
 use Rattle.records.specs.Records.{Standing, ended, stopped, whole, standing, recordLength}
-use Rattle.lines.specs.Lines.{header, stoppedLine, answerLine}
 
 -- what is made of a run: at its end, at a stop with its number and offset, and of a record's reading and the rest of the run
 pub record Telling (A : Type 0) : Type 0 where
@@ -37,16 +35,3 @@ stopping = record { atEnd = false; atStop = λ n offset. true; atRecord = λ rea
 -- Rule 12.4: of the bytes from a record's start on, which has an offset
 abbrev pub stopsFrom : ℕ → List ℕ → Bool
 stopsFrom = runFrom stopping
-
-module _ (decode : List ℤ → Answer (ℕ × ℕ)) where
-  -- Rule 13.1: one line for each record, and a line where the run stopped
-  abbrev pub lines : Telling (List ℕ)
-  lines = record { atEnd = []; atStop = stoppedLine; atRecord = λ reading later. answerLine (decode reading) ++ later }
-
-  -- Rule 13.1: the lines from a record's start on, which has an offset
-  abbrev pub linesFrom : ℕ → List ℕ → List ℕ
-  linesFrom = runFrom lines
-
-  -- Rule 13.1: the header, and the run's lines from offset 0 on (12.2)
-  abbrev pub output : List ℕ → List ℕ
-  output bytes = header ++ linesFrom 0 bytes

@@ -12,11 +12,12 @@ use borrow.Author.Tests.{leb-true, leb-false, ltb-true, ltb-false}
 use Rattle.golay.specs.Answers.{Answer}
 use Rattle.lines.specs.Lines.{longest}
 use Rattle.records.specs.Records.{recordLength, Standing, ended, stopped, whole, standing}
-use Rattle.records.specs.Capture.{runAt, runIn, stopping, lines}
+use Rattle.records.specs.Capture.{runAt, runIn, stopping}
 use Rattle.answers.proofs.Decoding.{a-decoder}
 use Rattle.pieces.proofs.Pieces.{keeps-once}
 use Rattle.run.specs.declared.kinds.Outcome.{Outcome}
 use Rattle.run.specs.declared.kinds.Turned.{Turned}
+use Rattle.run.specs.Output.{lines}
 use Rattle.run.specs.Runs.{Room, Runs, unrun, RunRule, TurnRoom, TurnRule}
 
 data Decided (P : Type 0) : Type 0 where

@@ -13,13 +13,14 @@ use Rattle.golay.specs.Answers.{Answer}
 use Rattle.records.specs.Records.{recordLength, ended, stopped, whole, standsAt, nextFrom, readingOf}
 use Rattle.lines.specs.Lines.{answerLine, stoppedLine, longest}
 use Rattle.texts.specs.Buffers.{put, Puts, Writes}
-use Rattle.records.specs.Capture.{stopping, stopsFrom, lines, linesFrom}
+use Rattle.records.specs.Capture.{stopping, stopsFrom}
 use Rattle.texts.proofs.Buffers.{puts-then, puts-text, writes-puts}
 use Rattle.lines.proofs.Lengths.{stopped-short}
 use Rattle.records.proofs.Standing.{whole-room, next-whole}
-use Rattle.records.proofs.Texts.{step-ended, step-stopped, step-whole}
+use Rattle.records.proofs.Running.{step-ended, step-stopped, step-whole}
 use Rattle.answers.specs.Decoding.{Decoder, Tells}
 use Rattle.answers.proofs.Decoding.{a-decoder}
+use Rattle.run.specs.Output.{lines, linesFrom}
 use Rattle.run.specs.Runs.{Room, Runs}
 
 -- what was told of the bytes before a place, and what is left to tell

@@ -8,9 +8,10 @@ use lib.ListN.{length, take}
 use Rattle.golay.specs.Answers.{Answer}
 use Rattle.lines.specs.Lines.{longest}
 use Rattle.texts.specs.Buffers.{Puts}
-use Rattle.records.specs.Capture.{stopsFrom, linesFrom}
+use Rattle.records.specs.Capture.{stopsFrom}
 use Rattle.answers.specs.Decoding.{Decoder}
 use Rattle.pieces.specs.Pieces.{wholes, Keeps}
+use Rattle.run.specs.Output.{linesFrom}
 use Rattle.run.specs.declared.kinds.Outcome.{Outcome}
 use Rattle.run.specs.declared.kinds.Turned.{Turned}
 
