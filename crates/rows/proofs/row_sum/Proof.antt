@@ -2,10 +2,10 @@
 -- Assumes nothing.
 use mathlib.Core.Path.{_≡_, refl, _∙_, sym, ap}
 use mathlib.Core.List.{List}
-use Prim.Native.Nat.{ℕ, _-_, _*_, _%_, _≤_, _<_}
+use Prim.Native.Nat.{ℕ, _-_, _%_, _≤_}
 use native.Mathlib.Omega.{arith}
 use lib.Bits.{bitXor, xor-zero-r}
-use lib.ListN.{length, drop, getD}
+use lib.ListN.{length, drop}
 use lib.Seq.{drop-length}
 use denote.Ref.{now}
 use borrow.Author.Needs.{needs}
@@ -14,8 +14,6 @@ use Rattle.binary.proofs.Xor.{bit-lt}
 use Rattle.binary.proofs.Linear.{pick-lt, rowSum-turn}
 use Rattle.rows.proofs.row_sum.Statement.{statement}
 use Rattle.rows.proofs.row_sum.Tie as tie
-use Rattle.rows.proofs.row_sum.Reads as reads
-use Rattle.rows.proofs.row_sum.Lts as lts
 
 abbrev Inv-loop : tie.InvT-loop
 Inv-loop rows word sum₀ left₀ i₀ sum left i = (i ≤ length rows) × (bitXor sum (rowSum (drop i rows) left) ≡ rowSum rows word)
