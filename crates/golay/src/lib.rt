@@ -89,17 +89,11 @@ pub fn syndrome(word: u32) -> SyndromeAnswer
     SyndromeAnswer::Accepted(Syndrome(syndrome_of(word)))
 }
 
-// How many ones a number of 32 bits has: each turn takes the lowest one away.
+// How many ones a number of 32 bits has.
 pub fn ones(number: u32) -> u32
     ensures { λ r. ⌜ r ≡ binary.ones 32 number ⌝ }
 {
-    let mut count: u32 = 0;
-    let mut left = number;
-    while left != 0 {
-        left = left & (left - 1);
-        count += 1;
-    }
-    count
+    u32::count_ones(number)
 }
 
 // In how many positions two words differ. Refuses 4.
