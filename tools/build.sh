@@ -48,3 +48,4 @@ prove() {
 capture_is_built() { fresh target/bin/capture; }
 build_capture() { capture_is_built || prove "the capture program" target/bin/capture check capture; }
 build_library() { fresh target/staticlib/libdrive.a || prove "the library for C" target/staticlib/libdrive.a staticlib drive; }
+build_trial() { fresh target/staticlib/libtrial.a || prove "the library for the tests" target/staticlib/libtrial.a staticlib trial; }

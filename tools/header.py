@@ -1,7 +1,7 @@
 #!/usr/bin/env python3
-"""Compares include/garthumor.h with the entry points of crates/drive/src/lib.rt: each is declared and each declaration is defined, with the
-same parameters in the same order under the same names, and the types that C has for the source's. Prints what differs; exit 1 where
-something does.
+"""Compares each header with the entry points of its source, include/garthumor.h with crates/drive and tests/host/trial.h with crates/trial: each
+is declared and each declaration is defined, with the same parameters in the same order under the same names, and the types that C has for the
+source's. Prints what differs; exit 1 where something does.
 
 A slice is a pointer and a length in C; the length has no name in the source, so the header chooses it.
 """
@@ -11,8 +11,7 @@ import re
 import sys
 
 ROOT = pathlib.Path(__file__).resolve().parent.parent
-SOURCE = ROOT / "crates/drive/src/lib.rt"
-HEADER = ROOT / "include/garthumor.h"
+PAIRS = {"crates/drive/src/lib.rt": "include/garthumor.h", "crates/trial/src/lib.rt": "tests/host/trial.h"}
 
 NUMBERS = {"u8": "uint8_t", "u16": "uint16_t", "u32": "uint32_t", "i32": "int32_t", "i64": "int64_t", "usize": "size_t"}
 LENGTH = "(length)"
@@ -31,7 +30,7 @@ def in_c(name, rattle):
     """The parameters that C has for one of the source's: pairs of a type and a name."""
     match = RATTLE_TYPE.fullmatch(rattle)
     if not match or match[3] not in NUMBERS or (match[2] == "[") != (match[4] == "]") or (match[2] and not match[1]):
-        raise Unreadable(f"{SOURCE.name}: {name}: {rattle} is no type of a parameter for C")
+        raise Unreadable(f"{name}: {rattle} is no type of a parameter for C")
     lent, bracket, number, _ = match.groups()
     pointer = {"": "", "&": " *", "&mut ": " *"}[lent]
     constant = "const " if lent == "&" else ""
@@ -46,14 +45,16 @@ def defined(text):
         pairs = [parameter.split(":") for parameter in parameters.split(",") if parameter.strip()]
         calls[name] = (NUMBERS.get(answer, answer), [c for left, right in pairs for c in in_c(left.strip(), right.strip())])
     if len(calls) != text.count('extern "C"'):
-        raise Unreadable(f'{SOURCE.name}: not every extern "C" is that of an entry point')
+        raise Unreadable('not every extern "C" is that of an entry point')
+    if not calls:
+        raise Unreadable("no entry point")
     return calls
 
 
 def declared_parameter(text):
     match = C_PARAMETER.fullmatch(text.strip())
     if not match:
-        raise Unreadable(f"{HEADER.name}: {text.strip()} is no parameter with a name")
+        raise Unreadable(f"{text.strip()} is no parameter with a name")
     return " ".join(match[1].replace("*", " * ").split()), match[2]
 
 
@@ -66,7 +67,7 @@ def declared(text):
     for declaration in filter(None, map(str.strip, text.split(";"))):
         match = DECLARATION.fullmatch(declaration)
         if not match or match[2] in calls:
-            raise Unreadable(f"{HEADER.name}: {declaration} is no declaration, or a second one")
+            raise Unreadable(f"{declaration} is no declaration, or a second one")
         calls[match[2]] = (match[1], [declared_parameter(parameter) for parameter in match[3].split(",")])
     return calls
 
@@ -93,19 +94,23 @@ def differences(source, header):
             yield f"defined:  {shown(name, source[name])}\ndeclared: {shown(name, header[name])}"
 
 
-def main():
+def calls_of(read, file):
+    """What a file defines or declares; what can't be read in it is told with its name."""
     try:
-        source = defined(SOURCE.read_text(encoding="utf-8"))
-        header = declared(HEADER.read_text(encoding="utf-8"))
+        return read((ROOT / file).read_text(encoding="utf-8"))
     except Unreadable as reason:
-        print(reason, file=sys.stderr)
-        return 1
-    found = list(differences(source, header))
+        sys.exit(f"{file}: {reason}")
+
+
+def main():
+    found = [
+        f"{header}: {difference}"
+        for source, header in PAIRS.items()
+        for difference in differences(calls_of(defined, source), calls_of(declared, header))
+    ]
     for difference in found:
         print(difference, file=sys.stderr)
-    if not source:
-        print(f"{SOURCE.name}: no entry point", file=sys.stderr)
-    return 1 if found or not source else 0
+    return 1 if found else 0
 
 
 if __name__ == "__main__":

@@ -1,4 +1,4 @@
-/* Replays case lines through garthumor.h: reads cases, calls the library, prints the answer lines.
+/* Replays case lines through garthumor.h and trial.h: reads cases, calls the library, prints the answer lines.
  *
  * The line format is the second program's (tests/second/line.rs). Whatever the library gets a
  * pointer to lies between guard bytes; where those or an output break, the answer line is
@@ -6,6 +6,7 @@
 
 #include "garthumor.h"
 #include "lent.h"
+#include "trial.h"
 
 #include <inttypes.h>
 #include <stddef.h>
@@ -91,6 +92,15 @@ static void replay_syndrome(const struct given *given)
     uint32_t *syndrome = lend_output("syndrome", sizeof *syndrome);
     if (settle(garthumor_syndrome(given->head, syndrome)) == ANSWERED)
         print_number(*syndrome);
+}
+
+static void replay_distance(const struct given *given)
+{
+    uint32_t *distance = lend_output("distance", sizeof *distance);
+    if (given->count != 1)
+        fail("a second number is missing after ", "distance");
+    if (settle(trial_distance(given->head, (uint32_t)given->numbers[0], distance)) == ANSWERED)
+        print_number(*distance);
 }
 
 static void replay_write_bytes(const struct given *given)
@@ -184,6 +194,7 @@ static const struct call calls[] = {
     { "encode", 1, 0, 0, 0, replay_encode },
     { "read", 1, 0, 0, 0, replay_read },
     { "syndrome", 1, 0, 0, 0, replay_syndrome },
+    { "distance", 1, 1, 0, UINT32_MAX, replay_distance },
     { "write_bytes", 1, MOST_NUMBERS - 1, 0, UINT8_MAX, replay_write_bytes },
     { "read_bytes", 0, MOST_NUMBERS, 0, UINT8_MAX, replay_read_bytes },
     { "correct", 1, 0, 0, 0, replay_correct },

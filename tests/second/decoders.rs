@@ -108,6 +108,10 @@ pub fn syndrome(word: u32) -> Result<u32, Refusal> {
     word_in_range(word).map(syndrome_of)
 }
 
+pub fn distance_between(word: u32, other: u32) -> Result<u32, Refusal> {
+    Ok(distance(word_in_range(word)?, word_in_range(other)?))
+}
+
 impl Code {
     pub fn encode(&self, message: u32) -> Result<u32, Refusal> {
         if message < MESSAGES {

@@ -10,6 +10,7 @@ pub enum Case {
     Encode(u32),
     Read(u32),
     Syndrome(u32),
+    Distance(u32, u32),
     /// A word and the lent buffer's contents before the call.
     WriteBytes(u32, Vec<u8>),
     ReadBytes(Vec<u8>),
@@ -31,6 +32,7 @@ impl Display for Case {
             Case::Encode(message) => write!(f, "encode {message}"),
             Case::Read(word) => write!(f, "read {word}"),
             Case::Syndrome(word) => write!(f, "syndrome {word}"),
+            Case::Distance(word, other) => write!(f, "distance {word} {other}"),
             Case::WriteBytes(word, bytes) => write!(f, "write_bytes {word}{}", spaced(bytes)),
             Case::ReadBytes(bytes) => write!(f, "read_bytes{}", spaced(bytes)),
             Case::Correct(word) => write!(f, "correct {word}"),
@@ -82,6 +84,9 @@ impl Case {
             "read_bytes" => Ok(Case::ReadBytes(numbers(texts)?)),
             "soft" => Ok(Case::Soft(numbers(texts)?)),
             "quick" => Ok(Case::Quick(numbers(texts)?)),
+            "distance" => {
+                first_and_rest(texts).and_then(|(word, rest)| Ok(Case::Distance(word, only(rest)?)))
+            }
             "write_bytes" => first_and_rest(texts)
                 .and_then(|(word, rest)| Ok(Case::WriteBytes(word, numbers(rest)?))),
             "candidates" => first_and_rest(texts)
@@ -97,6 +102,7 @@ impl Case {
             Case::Encode(message) => line_of(code.encode(*message)),
             Case::Read(word) => line_of(code.read(*word)),
             Case::Syndrome(word) => line_of(decoders::syndrome(*word)),
+            Case::Distance(word, other) => line_of(decoders::distance_between(*word, *other)),
             Case::ReadBytes(bytes) => line_of(code.read_bytes(bytes)),
             Case::Correct(word) => line_of(
                 code.correct(*word)

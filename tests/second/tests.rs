@@ -7,13 +7,14 @@ use crate::captures::trials;
 use crate::cases::{patterns, refusals, Kind};
 use crate::chance::Chance;
 use crate::code::{
-    columns, distance, hexacodeword, parity, projection, syndrome_of, top, top_row_parity, Code,
-    WORDS,
+    bit_at, columns, distance, hexacodeword, parity, projection, syndrome_of, top, top_row_parity,
+    Code, WORDS,
 };
 use crate::compare::compare;
 use crate::line::{cases_of, spaced, Case};
 use crate::readings::KINDS;
 use crate::samples::Sample;
+use crate::words::{any_word, damaged};
 use std::collections::HashSet;
 use std::fs;
 
@@ -218,6 +219,19 @@ fn encodings_are_the_codewords_and_have_syndrome_zero() {
     assert_eq!(encodings, zero);
 }
 
+/// Rule 5.1, position by position.
+#[test]
+fn distance_counts_the_positions_that_differ() {
+    let chance = &mut Chance::from_seed(5);
+    for changed in (0..=24).cycle().take(2_500) {
+        let word = any_word(chance);
+        let other = damaged(chance, word, changed);
+        let differ = |&place: &usize| bit_at(word, place) != bit_at(other, place);
+        assert_eq!((0..24).filter(differ).count(), changed);
+        assert_eq!(distance(word, other) as usize, changed);
+    }
+}
+
 #[test]
 fn codewords_differ_in_eight_positions() {
     let codewords = code().codewords;
@@ -300,6 +314,9 @@ fn malformed_lines_are_named() {
         "encode x",
         "Encode 1",
         "decode 1",
+        "distance",
+        "distance 1",
+        "distance 1 2 3",
         "write_bytes",
         "write_bytes 1 256",
         "read_bytes -1",

@@ -1,4 +1,4 @@
-//! The cases of encoding, reading back, syndromes and codeword bytes.
+//! The cases of encoding, reading back, syndromes, distances and codeword bytes.
 
 use super::{refusals, WORD_BOUNDS};
 use crate::chance::Chance;
@@ -30,6 +30,7 @@ pub fn seeded(code: &Code, chance: &mut Chance) -> Vec<Case> {
     cases.extend(words_of_at_most_two_ones().into_iter().map(Case::Syndrome));
     cases.extend((0..SEEDED_SYNDROMES).map(|_| Case::Syndrome(any_word(chance))));
     cases.extend((0..SEEDED_ROUNDS).flat_map(|_| round(code, chance)));
+    cases.extend((0..SEEDED_ROUNDS).flat_map(|_| distances(code, chance)));
     cases
 }
 
@@ -41,6 +42,7 @@ pub fn fixed(code: &Code, chance: &mut Chance) -> Vec<Case> {
     cases.extend(words_of_at_most_two_ones().into_iter().map(Case::Syndrome));
     cases.extend((0..FIXED_ROUNDS).flat_map(|_| round(code, chance)));
     cases.extend(refusals::cases(refusals::golay()));
+    cases.extend((0..FIXED_ROUNDS).flat_map(|_| distances(code, chance)));
     cases
 }
 
@@ -121,4 +123,22 @@ fn byte_readings(code: &Code, chance: &mut Chance, length: usize) -> Vec<Case> {
         Case::ReadBytes(bytes)
     };
     words.iter().map(bytes_of).collect()
+}
+
+/// Two words that differ in no position, in one, in all but one, in all and in any number of them;
+/// and the first, the second and both above the range.
+fn distances(code: &Code, chance: &mut Chance) -> Vec<Case> {
+    let any_number = chance.below(POSITIONS as u64 + 1) as usize;
+    let changed = [0, 1, POSITIONS - 1, POSITIONS, any_number];
+    let mut cases = Vec::from(changed.map(|changed| {
+        let word = any_word(chance);
+        Case::Distance(word, damaged(chance, word, changed))
+    }));
+    let (word, above) = (any_word(chance), word_above(chance, code));
+    cases.extend([
+        Case::Distance(above, word),
+        Case::Distance(word, above),
+        Case::Distance(above, above),
+    ]);
+    cases
 }

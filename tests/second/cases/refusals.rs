@@ -46,6 +46,12 @@ pub fn golay() -> Vec<Row> {
     for length in [0, 1, 2, 4, 5, 24] {
         rows.extend([255, 254].map(|byte| (1, Case::ReadBytes(vec![byte; length]))));
     }
+    rows.extend([
+        (0, Case::Distance(CODEWORD, NO_CODEWORD)),
+        (4, Case::Distance(ABOVE, CODEWORD)),
+        (4, Case::Distance(CODEWORD, ABOVE)),
+        (4, Case::Distance(u32::MAX, u32::MAX)),
+    ]);
     rows
 }
 
