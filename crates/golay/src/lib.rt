@@ -89,7 +89,7 @@ pub fn syndrome(word: u32) -> SyndromeAnswer
     SyndromeAnswer::Accepted(Syndrome(syndrome_of(word)))
 }
 
-// How many ones a number of 32 bits has.
+// How many ones a number of 32 bits has (rule 15.7).
 pub fn ones(number: u32) -> u32
     ensures { λ r. ⌜ r ≡ binary.ones 32 number ⌝ }
 {
