@@ -1,4 +1,5 @@
-/* Replays case lines through garthumor.h and trial.h: reads cases, calls the library, prints the answer lines.
+/* Replays case lines through garthumor.h and trial.h: reads cases, calls the libraries, prints the
+ * answer lines.
  *
  * The line format is the second program's (tests/second/line.rs). Whatever the library gets a
  * pointer to lies between guard bytes; where those or an output break, the answer line is
