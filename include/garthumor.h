@@ -17,7 +17,12 @@
  *                each confidence moves, added up, is the change: any that is less than the reserve
  *                keeps the answer, some change of exactly the reserve loses it (7.5 to 7.7)
  *   class        class k, 0 to 127, is the 32 codewords of the messages 32 k to 32 k + 31 (8.1)
- *   figure       the largest correlation in a class, 0 to 51,539,607,528 (8.2)
+ *   figure       of a class: the largest correlation in it, 0 to 51,539,607,528 (8.2)
+ *   column       column j, 1 to 6, is the positions 4 j - 3 to 4 j, the first on top (1.3). In a
+ *                class it has two interpretations, opposite in all four bits (1.10)
+ *   figure       of a column in a class: positive where its confidences favour the interpretation
+ *                with top bit 0, negative where that with top bit 1, 0 where neither; its size is
+ *                what the favoured one brings, at most 8,589,934,588 (8.3)
  *
  * A yardstick: a clean signal, all 24 confidences right and of one size s, has the correlation 24 s
  * and the reserve 8 s, and no reading with sizes up to s has a larger reserve (7.8). To turn one of
@@ -40,13 +45,13 @@
 #include <stdint.h>
 
 /* The first number changes where a program that uses the library may have to change with it. */
-#define GARTHUMOR_VERSION "1.0.0"
+#define GARTHUMOR_VERSION "1.1.0"
 #define GARTHUMOR_VERSION_MAJOR 1
-#define GARTHUMOR_VERSION_MINOR 0
+#define GARTHUMOR_VERSION_MINOR 1
 #define GARTHUMOR_VERSION_PATCH 0
 
 /* What a call returns (11.1). 9 and 10 are missing: they tell how a capture stops, and no call here
- * gives them. */
+ * gives them. 12 to 17 have no meaning. */
 #define GARTHUMOR_ANSWERED 0
 #define GARTHUMOR_WRONG_LENGTH 1       /* not 24 confidences, not 3 bytes or not 6 slots */
 #define GARTHUMOR_MOST_NEGATIVE 2      /* a confidence is -2,147,483,648 */
@@ -57,6 +62,7 @@
 #define GARTHUMOR_DISTANCE_FOUR 7      /* too far from the code to be corrected; six are as near */
 #define GARTHUMOR_NOT_DISTANCE_FOUR 8  /* nearer to the code than 4, so no six candidates */
 #define GARTHUMOR_CLASS_ABOVE 11       /* above 127 */
+#define GARTHUMOR_NO_COLUMN 18         /* not 1 to 6 */
 
 #ifdef __cplusplus
 extern "C" {
@@ -74,6 +80,9 @@ uint8_t garthumor_quick(const int32_t *reading, size_t length, uint32_t *codewor
 
 /* The figure of a class (8.2). Refuses 1, 2, 11. */
 uint8_t garthumor_class_figure(const int32_t *reading, size_t length, uint32_t class_number, int64_t *figure);
+
+/* The figure of a column in a class, with its sign (8.3). Refuses 1, 2, 11, 18. */
+uint8_t garthumor_column_figure(const int32_t *reading, size_t length, uint32_t class_number, uint32_t column, int64_t *figure);
 
 /* ---- the code */
 

@@ -16,7 +16,7 @@
 #include <time.h>
 #include <ucontext.h>
 
-enum { READINGS = 64, SLOTS = 6, WORD_BYTES = 3, CLASSES = 128, STACK = 1 << 18, PAINT = 0xC5 };
+enum { READINGS = 64, SLOTS = 6, WORD_BYTES = 3, CLASSES = 128, COLUMNS = 6, LAST_REFUSAL = 18, STACK = 1 << 18, PAINT = 0xC5 };
 
 static int32_t readings[READINGS][POSITIONS];
 static uint32_t numbers[READINGS];
@@ -43,7 +43,8 @@ static uint8_t read_back(int r) { return garthumor_read(codewords[r], &one); }
 static uint8_t syndrome(int r) { return garthumor_syndrome(numbers[r], &one); }
 static uint8_t correct(int r) { return garthumor_correct(numbers[r], &one, &other); }
 static uint8_t candidates(int r) { return garthumor_candidates(numbers[r], slots, SLOTS); }
-static uint8_t figure(int r) { return garthumor_class_figure(readings[r], POSITIONS, numbers[r] % CLASSES, &wide); }
+static uint8_t class_figure(int r) { return garthumor_class_figure(readings[r], POSITIONS, numbers[r] % CLASSES, &wide); }
+static uint8_t column_figure(int r) { return garthumor_column_figure(readings[r], POSITIONS, numbers[r] % CLASSES, 1 + numbers[r] / CLASSES % COLUMNS, &wide); }
 static uint8_t soft(int r) { return garthumor_soft(readings[r], POSITIONS, &one, &other, &wide, &more); }
 static uint8_t quick(int r) { return garthumor_quick(readings[r], POSITIONS, &one); }
 static uint8_t write_bytes(int r) { return garthumor_write_bytes(codewords[r], bytes, WORD_BYTES); }
@@ -65,7 +66,8 @@ static const struct call calls[] = {
     { "syndrome", syndrome, 1 },
     { "correct", correct, 1 },
     { "candidates", candidates, 1 },
-    { "class_figure", figure, 1 },
+    { "class_figure", class_figure, 1 },
+    { "column_figure", column_figure, 1 },
     { "soft", soft, 1 },
     { "quick", quick, 1 },
     { "write_bytes", write_bytes, 1 },
@@ -84,7 +86,7 @@ static int run_one(const char *name, int first, int count)
             continue;
         for (int i = 0; i < count; i++)
             kept = calls[c].run((first + i) % READINGS);
-        return kept > 11;
+        return kept > LAST_REFUSAL;
     }
     fprintf(stderr, "bench: no such call: %s\n", name);
     return 2;

@@ -1,4 +1,4 @@
-/* Random calls of all ten entry points, with arguments that favour the edges and guard bytes around
+/* Random calls of all eleven entry points, with arguments that favour the edges and guard bytes around
  * every buffer. After each call: the guards hold, inputs are as they were, a refusal left every
  * output alone and has the number that the rules of docs/RULES.md ask for, and an answer is the one
  * that they ask for. What they ask for is found here, with no help of the library. Only where that
@@ -195,6 +195,18 @@ static int64_t figure_of(uint32_t class_number, const int32_t *reading)
     return figure;
 }
 
+/* Of the class's codewords, in this column, those with top bit 0 are all the same. */
+static int64_t column_figure_of(uint32_t class_number, uint32_t column, const int32_t *reading)
+{
+    int64_t sum = 0;
+    const uint32_t *member = &codewords[CLASS_SIZE * class_number];
+    while (*member >> (27 - 4 * column) & 1)
+        member++;
+    for (uint32_t i = 4 * column - 4; i < 4 * column; i++)
+        sum += *member >> (23 - i) & 1 ? -(int64_t)reading[i] : reading[i];
+    return sum;
+}
+
 static uint32_t word_of_signs(const int32_t *reading)
 {
     uint32_t word = 0;
@@ -389,6 +401,22 @@ static struct outcome try_class_figure(void)
     return judged(given, asked, fact, "not the largest correlation of the class");
 }
 
+static struct outcome try_column_figure(void)
+{
+    uint32_t class_number = some_number(CLASSES), column = some_number(COLUMNS + 2);
+    size_t length = some_length(POSITIONS);
+    const int32_t *reading = lend_reading(length);
+    int64_t *figure = lend_output("figure", sizeof *figure);
+    uint8_t given = garthumor_column_figure(reading, length, class_number, column, figure);
+    uint8_t asked = asked_of_reading(reading, length);
+    if (asked == 0 && class_number >= CLASSES)
+        asked = 11;
+    if (asked == 0 && (column < 1 || column > COLUMNS))
+        asked = 18;
+    int fact = asked == 0 && *figure == column_figure_of(class_number, column, reading);
+    return judged(given, asked, fact, "not what the column says for its interpretation with top bit 0");
+}
+
 static struct outcome try_soft(void)
 {
     size_t length = some_length(POSITIONS);
@@ -459,7 +487,7 @@ static struct outcome try_read_bytes(void)
 static const struct {
     const char *name;
     struct outcome (*run)(void);
-    uint8_t refusals[4]; /* those that include/garthumor.h lists, and 0 */
+    uint8_t refusals[5]; /* those that include/garthumor.h lists, and 0 */
 } calls[] = {
     { "encode", try_encode, { 3 } },
     { "read", try_read, { 4, 5 } },
@@ -467,6 +495,7 @@ static const struct {
     { "correct", try_correct, { 4, 7 } },
     { "candidates", try_candidates, { 1, 4, 8 } },
     { "class_figure", try_class_figure, { 1, 2, 11 } },
+    { "column_figure", try_column_figure, { 1, 2, 11, 18 } },
     { "soft", try_soft, { 1, 2, 6 } },
     { "quick", try_quick, { 1, 2, 6 } },
     { "write_bytes", try_write_bytes, { 1, 4, 5 } },
@@ -503,7 +532,7 @@ static int shows_little(size_t which, unsigned long count)
 {
     const unsigned long *often = given_often[which];
     int little = often[0] == 0 || often[0] < count / LEAST_ANSWERED;
-    printf("%-12s answered %lu, refused", calls[which].name, often[0]);
+    printf("%-13s answered %lu, refused", calls[which].name, often[0]);
     for (const uint8_t *refusal = calls[which].refusals; *refusal != 0; refusal++) {
         printf(" %u: %lu", (unsigned)*refusal, often[*refusal]);
         little |= often[*refusal] == 0;

@@ -16,21 +16,20 @@
 #include <stdlib.h>
 #include <string.h>
 
-enum { MOST_NUMBERS = 64, LINE_BYTES = 1024 };
+enum { MOST_HEADS = 2, MOST_NUMBERS = 64, LINE_BYTES = 1024 };
 
 enum outcome { ANSWERED, REFUSED, BROKEN };
 
-/* A case: the message, word or class where the call has one, and the numbers after it. */
+/* A case: the message, words, class or column that the call has, and the numbers after them. */
 struct given {
-    uint32_t head;
+    uint32_t head[MOST_HEADS];
     int64_t numbers[MOST_NUMBERS];
     size_t count;
 };
 
 struct call {
     const char *name;
-    int has_head;
-    size_t most_numbers;
+    size_t heads, most_numbers;
     int64_t least, most;
     void (*replay)(const struct given *given);
 };
@@ -77,37 +76,35 @@ static uint8_t *lend_bytes(enum role role, const struct given *given)
 static void replay_encode(const struct given *given)
 {
     uint32_t *codeword = lend_output("codeword", sizeof *codeword);
-    if (settle(garthumor_encode(given->head, codeword)) == ANSWERED)
+    if (settle(garthumor_encode(given->head[0], codeword)) == ANSWERED)
         print_number(*codeword);
 }
 
 static void replay_read(const struct given *given)
 {
     uint32_t *message = lend_output("message", sizeof *message);
-    if (settle(garthumor_read(given->head, message)) == ANSWERED)
+    if (settle(garthumor_read(given->head[0], message)) == ANSWERED)
         print_number(*message);
 }
 
 static void replay_syndrome(const struct given *given)
 {
     uint32_t *syndrome = lend_output("syndrome", sizeof *syndrome);
-    if (settle(garthumor_syndrome(given->head, syndrome)) == ANSWERED)
+    if (settle(garthumor_syndrome(given->head[0], syndrome)) == ANSWERED)
         print_number(*syndrome);
 }
 
 static void replay_distance(const struct given *given)
 {
     uint32_t *distance = lend_output("distance", sizeof *distance);
-    if (given->count != 1)
-        fail("a second number is missing after ", "distance");
-    if (settle(trial_distance(given->head, (uint32_t)given->numbers[0], distance)) == ANSWERED)
+    if (settle(trial_distance(given->head[0], given->head[1], distance)) == ANSWERED)
         print_number(*distance);
 }
 
 static void replay_write_bytes(const struct given *given)
 {
     uint8_t *bytes = lend_bytes(MEMORY, given);
-    if (settle(garthumor_write_bytes(given->head, bytes, given->count)) == BROKEN)
+    if (settle(garthumor_write_bytes(given->head[0], bytes, given->count)) == BROKEN)
         return;
     printf(" |");
     for (size_t i = 0; i < given->count; i++)
@@ -126,7 +123,7 @@ static void replay_correct(const struct given *given)
 {
     uint32_t *codeword = lend_output("codeword", sizeof *codeword);
     uint32_t *distance = lend_output("distance", sizeof *distance);
-    if (settle(garthumor_correct(given->head, codeword, distance)) != ANSWERED)
+    if (settle(garthumor_correct(given->head[0], codeword, distance)) != ANSWERED)
         return;
     print_number(*codeword);
     print_number(*distance);
@@ -138,7 +135,7 @@ static void replay_candidates(const struct given *given)
     for (size_t i = 0; i < given->count; i++)
         contents[i] = (uint32_t)given->numbers[i];
     uint32_t *slots = lend(MEMORY, "slots", contents, given->count * sizeof *slots);
-    if (settle(garthumor_candidates(given->head, slots, given->count)) == BROKEN)
+    if (settle(garthumor_candidates(given->head[0], slots, given->count)) == BROKEN)
         return;
     printf(" |");
     for (size_t i = 0; i < given->count; i++)
@@ -162,7 +159,16 @@ static void replay_class_figure(const struct given *given)
 {
     const int32_t *reading = lend_reading(given);
     int64_t *figure = lend_output("figure", sizeof *figure);
-    if (settle(garthumor_class_figure(reading, given->count, given->head, figure)) == ANSWERED)
+    if (settle(garthumor_class_figure(reading, given->count, given->head[0], figure)) == ANSWERED)
+        print_wide_number(*figure);
+}
+
+static void replay_column_figure(const struct given *given)
+{
+    const int32_t *reading = lend_reading(given);
+    int64_t *figure = lend_output("figure", sizeof *figure);
+    uint8_t refusal = garthumor_column_figure(reading, given->count, given->head[0], given->head[1], figure);
+    if (settle(refusal) == ANSWERED)
         print_wide_number(*figure);
 }
 
@@ -195,12 +201,13 @@ static const struct call calls[] = {
     { "encode", 1, 0, 0, 0, replay_encode },
     { "read", 1, 0, 0, 0, replay_read },
     { "syndrome", 1, 0, 0, 0, replay_syndrome },
-    { "distance", 1, 1, 0, UINT32_MAX, replay_distance },
+    { "distance", 2, 0, 0, 0, replay_distance },
     { "write_bytes", 1, MOST_NUMBERS - 1, 0, UINT8_MAX, replay_write_bytes },
     { "read_bytes", 0, MOST_NUMBERS, 0, UINT8_MAX, replay_read_bytes },
     { "correct", 1, 0, 0, 0, replay_correct },
     { "candidates", 1, MOST_NUMBERS - 1, 0, UINT32_MAX, replay_candidates },
     { "class_figure", 1, MOST_NUMBERS - 1, INT32_MIN, INT32_MAX, replay_class_figure },
+    { "column_figure", 2, MOST_NUMBERS - 2, INT32_MIN, INT32_MAX, replay_column_figure },
     { "soft", 0, MOST_NUMBERS, INT32_MIN, INT32_MAX, replay_soft },
     { "quick", 0, MOST_NUMBERS, INT32_MIN, INT32_MAX, replay_quick },
 };
@@ -241,13 +248,12 @@ static int64_t number_of(const char *word, int64_t least, int64_t most)
 static void read_numbers(const struct call *call, char *rest, struct given *given)
 {
     char *word;
-    given->head = 0;
     given->count = 0;
-    if (call->has_head) {
+    for (size_t i = 0; i < call->heads; i++) {
         word = next_word(&rest);
         if (word == NULL)
             fail("a number is missing after ", call->name);
-        given->head = (uint32_t)number_of(word, 0, UINT32_MAX);
+        given->head[i] = (uint32_t)number_of(word, 0, UINT32_MAX);
     }
     while ((word = next_word(&rest)) != NULL) {
         if (given->count == call->most_numbers)

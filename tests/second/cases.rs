@@ -1,5 +1,6 @@
 //! The kinds of cases: which ones a seed gives, and the fixed ones that are kept as fixtures.
 
+mod favours;
 mod golay;
 mod hard;
 mod quick;
@@ -19,6 +20,7 @@ pub use hard::patterns;
 pub enum Kind {
     Golay,
     Hard,
+    Favours,
     Soft,
     Quick,
 }
@@ -31,6 +33,7 @@ impl Kind {
         match name {
             "golay" => Some(Kind::Golay),
             "hard" => Some(Kind::Hard),
+            "favours" => Some(Kind::Favours),
             "soft" => Some(Kind::Soft),
             "quick" => Some(Kind::Quick),
             _ => None,
@@ -42,6 +45,7 @@ impl Kind {
         match self {
             Kind::Golay => Ok(golay::seeded(code, chance)),
             Kind::Hard => Ok(hard::seeded(code, chance)),
+            Kind::Favours => Ok(favours::seeded(code, chance)),
             Kind::Soft => soft::seeded(code, chance),
             Kind::Quick => Ok(quick::seeded(code, chance)),
         }
@@ -52,6 +56,7 @@ impl Kind {
         match self {
             Kind::Golay => Ok(golay::fixed(code, chance)),
             Kind::Hard => Ok(hard::fixed(code, chance)),
+            Kind::Favours => Ok(favours::fixed(code, chance)),
             Kind::Soft => soft::fixed(code, chance),
             Kind::Quick => Ok(quick::fixed(code, chance)),
         }

@@ -85,6 +85,13 @@ fn column_with(wanted_parity: u32, character: u32, top_bit: u32) -> u32 {
         .expect("a column for every parity, character and top bit")
 }
 
+/// The two columns that a class's codewords have in a column, 1 to 6: both interpretations (1.10) of
+/// its parity and of its character there (8.1), the one with top bit 0 first.
+pub fn interpretations(class: u32, column: u32) -> [u32; 2] {
+    let characters = hexacodeword(class >> 4 & 3, class >> 2 & 3, class & 3);
+    [0, 1].map(|top_bit| column_with(class >> 6 & 1, characters[column as usize - 1], top_bit))
+}
+
 /// The top row: the message holds five bits of it (3.2), and the sixth makes its parity p (3.3).
 fn top_row(message: u32, p: u32) -> [u32; COLUMNS] {
     let five = message & 31;

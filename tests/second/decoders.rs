@@ -1,6 +1,8 @@
 //! Every call (11.3), decided by trying all codewords: the complete answer, or the refusal.
 
-use crate::code::{bit_at, distance, syndrome_of, Code, MESSAGES, POSITIONS, WORDS};
+use crate::code::{
+    bit_at, distance, interpretations, syndrome_of, Code, COLUMNS, MESSAGES, POSITIONS, WORDS,
+};
 
 /// The refusals by their numbers (11.1).
 #[derive(Clone, Copy, Debug, PartialEq)]
@@ -16,6 +18,7 @@ pub enum Refusal {
     NoMark = 9,
     CutShort = 10,
     ClassAbove = 11,
+    NoColumn = 18,
 }
 
 pub const FORBIDDEN: i32 = i32::MIN;
@@ -110,6 +113,38 @@ pub fn syndrome(word: u32) -> Result<u32, Refusal> {
 
 pub fn distance_between(word: u32, other: u32) -> Result<u32, Refusal> {
     Ok(distance(word_in_range(word)?, word_in_range(other)?))
+}
+
+/// The correlations of a column's two interpretations with its four confidences (8.3): that of the
+/// one with top bit 0, which is the column's figure, and that of the other.
+pub fn for_interpretations(
+    class: u32,
+    column: u32,
+    confidences: &[i32],
+) -> Result<[i64; 2], Refusal> {
+    let reading = checked(confidences)?;
+    if class >= CLASSES {
+        return Err(Refusal::ClassAbove);
+    }
+    if column < 1 || column > COLUMNS as u32 {
+        return Err(Refusal::NoColumn);
+    }
+    let first = 4 * (column as usize - 1);
+    let sum = |interpretation: u32| {
+        let signed = |row: usize| {
+            if interpretation >> (3 - row) & 1 == 1 {
+                -reading[first + row]
+            } else {
+                reading[first + row]
+            }
+        };
+        (0..4).map(signed).sum()
+    };
+    Ok(interpretations(class, column).map(sum))
+}
+
+pub fn column_figure(class: u32, column: u32, confidences: &[i32]) -> Result<i64, Refusal> {
+    for_interpretations(class, column, confidences).map(|[top_zero, _]| top_zero)
 }
 
 impl Code {

@@ -18,6 +18,8 @@ pub enum Case {
     /// A word and the lent slots' contents before the call.
     Candidates(u32, Vec<u32>),
     ClassFigure(u32, Vec<i32>),
+    /// A class, a column and a reading.
+    ColumnFigure(u32, u32, Vec<i32>),
     Soft(Vec<i32>),
     Quick(Vec<i32>),
 }
@@ -39,6 +41,9 @@ impl Display for Case {
             Case::Candidates(word, slots) => write!(f, "candidates {word}{}", spaced(slots)),
             Case::ClassFigure(class, reading) => {
                 write!(f, "class_figure {class}{}", spaced(reading))
+            }
+            Case::ColumnFigure(class, column, reading) => {
+                write!(f, "column_figure {class} {column}{}", spaced(reading))
             }
             Case::Soft(reading) => write!(f, "soft{}", spaced(reading)),
             Case::Quick(reading) => write!(f, "quick{}", spaced(reading)),
@@ -93,6 +98,11 @@ impl Case {
                 .and_then(|(word, rest)| Ok(Case::Candidates(word, numbers(rest)?))),
             "class_figure" => first_and_rest(texts)
                 .and_then(|(class, rest)| Ok(Case::ClassFigure(class, numbers(rest)?))),
+            "column_figure" => {
+                let (class, rest) = first_and_rest(texts)?;
+                let (column, rest) = first_and_rest(rest)?;
+                Ok(Case::ColumnFigure(class, column, numbers(rest)?))
+            }
             _ => Err(format!("'{call}' is no call")),
         }
     }
@@ -109,6 +119,9 @@ impl Case {
                     .map(|(codeword, distance)| format!("{codeword} {distance}")),
             ),
             Case::ClassFigure(class, reading) => line_of(code.class_figure(*class, reading)),
+            Case::ColumnFigure(class, column, reading) => {
+                line_of(decoders::column_figure(*class, *column, reading))
+            }
             Case::Soft(reading) => line_of(code.soft(reading).map(|answer| {
                 format!(
                     "{} {} {} {}",

@@ -39,7 +39,7 @@ const USAGE: &str =
                                      runs a capture program on captures that a seed gives, and
                                      compares what it writes with its own
        second seed                   prints a fresh seed
-KIND is golay, hard, soft or quick; SAMPLE is decent, weak or damaged;
+KIND is golay, hard, favours, soft or quick; SAMPLE is decent, weak or damaged;
 SEED is a decimal number below 2^64";
 
 enum Failure {

@@ -7,10 +7,11 @@ use crate::captures::trials;
 use crate::cases::{patterns, refusals, Kind};
 use crate::chance::Chance;
 use crate::code::{
-    bit_at, columns, distance, hexacodeword, parity, projection, syndrome_of, top, top_row_parity,
-    Code, WORDS,
+    bit_at, columns, distance, hexacodeword, interpretations, parity, projection, syndrome_of, top,
+    top_row_parity, Code, WORDS,
 };
 use crate::compare::compare;
+use crate::decoders::for_interpretations;
 use crate::line::{cases_of, spaced, Case};
 use crate::readings::KINDS;
 use crate::samples::Sample;
@@ -165,6 +166,7 @@ fn earlier_refusals_come_first() {
     for rows in [
         refusals::golay,
         refusals::hard,
+        refusals::favours,
         refusals::soft,
         refusals::quick,
     ] {
@@ -286,10 +288,76 @@ fn class_figures_agree_with_the_soft_answer() {
     }
 }
 
+/// By hand, for the reading 1, 2, .. 24: class, column, what its two interpretations come to.
+#[test]
+fn worked_column_figures() {
+    let reading: Vec<i32> = (1..=24).collect();
+    for (class, column, figure) in [
+        (0, 1, 1 + 2 + 3 + 4),
+        (21, 2, 5 + 6 - 7 - 8),
+        (42, 3, 9 - 10 + 11 - 12),
+        (63, 4, 13 - 14 - 15 + 16),
+        (64, 5, 17 - 18 - 19 - 20),
+        (85, 4, 13 - 14 + 15 + 16),
+        (106, 3, 9 + 10 - 11 + 12),
+        (127, 2, 5 + 6 + 7 - 8),
+        (127, 6, 21 - 22 - 23 - 24),
+    ] {
+        let both = for_interpretations(class, column, &reading);
+        assert_eq!(
+            both,
+            Ok([figure, -figure]),
+            "class {class}, column {column}"
+        );
+    }
+}
+
+/// Rules 8.3 and 8.4: the columns of a class's codewords are the two interpretations, whose
+/// correlations are opposite; and the six figures' sizes reach the figure of the class, whichever bit
+/// a zero is given.
+#[test]
+fn column_figures_reach_the_class_figure() {
+    let code = code();
+    let chance = &mut Chance::from_seed(7);
+    for kind in KINDS.iter().cycle().take(90) {
+        let reading = kind(chance, &code);
+        for class in 0..128 {
+            let figures: Vec<i64> = (1..=6)
+                .map(|column| {
+                    let both = for_interpretations(class, column, &reading).expect("a figure");
+                    assert_eq!(both[0], -both[1]);
+                    both[0]
+                })
+                .collect();
+            let sizes: i64 = figures.iter().map(|figure| figure.abs()).sum();
+            let least = figures.iter().map(|figure| figure.abs()).min();
+            let favoured_ones = figures.iter().filter(|&&figure| figure < 0).count() as u32;
+            let lost = if favoured_ones % 2 == class / 64 {
+                0
+            } else {
+                2 * least.expect("six")
+            };
+            assert_eq!(code.class_figure(class, &reading), Ok(sizes - lost));
+        }
+    }
+    for (message, &codeword) in code.codewords.iter().enumerate() {
+        for (i, column) in columns(codeword).iter().enumerate() {
+            let both = interpretations(message as u32 / 32, i as u32 + 1);
+            assert_eq!(both[top(*column) as usize], *column);
+        }
+    }
+}
+
 #[test]
 fn case_lines_come_back_as_they_were() {
     let code = code();
-    for kind in [Kind::Golay, Kind::Hard, Kind::Soft, Kind::Quick] {
+    for kind in [
+        Kind::Golay,
+        Kind::Hard,
+        Kind::Favours,
+        Kind::Soft,
+        Kind::Quick,
+    ] {
         for case in kind.fixed(&code).expect("fixed cases") {
             assert_eq!(Case::from_line(&case.to_string()), Ok(case));
         }
@@ -323,6 +391,9 @@ fn malformed_lines_are_named() {
         "candidates",
         "candidates 1 4294967296",
         "class_figure",
+        "column_figure",
+        "column_figure 1",
+        "column_figure 1 -1 2",
         "soft 2147483648",
         "soft -2147483649",
         "soft -0",

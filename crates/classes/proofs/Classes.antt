@@ -19,11 +19,11 @@ use Rattle.classes.proofs.Columns.{fromColumns, correlation-columns}
 
 -- ---- a test of two words of bits
 
-sameBit : Bool → Bool → Bool
+unfoldable pub sameBit : Bool → Bool → Bool
 sameBit true b = b
 sameBit false b = not b
 
-sameWord : List Bool → List Bool → Bool
+unfoldable pub sameWord : List Bool → List Bool → Bool
 sameWord [] [] = true
 sameWord [] (c ∷ cs) = false
 sameWord (b ∷ bs) [] = false
@@ -36,7 +36,7 @@ sameBit-eq true false t = absurd t
 sameBit-eq false true t = absurd t
 sameBit-eq false false t = refl
 
-sameWord-eq : (bs cs : List Bool) → T (sameWord bs cs) → bs ≡ cs
+pub sameWord-eq : (bs cs : List Bool) → T (sameWord bs cs) → bs ≡ cs
 unfolding sameWord
 sameWord-eq [] [] t = refl
 sameWord-eq [] (c ∷ cs) t = absurd t

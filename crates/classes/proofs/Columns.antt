@@ -26,7 +26,7 @@ signed-not : (b : Bool) (x : ℤ) → signed (not b) x ≡ negℤ (signed b x)
 signed-not false x = refl
 signed-not true x = sym (negℤ-negℤ x)
 
-correlation-not : (bs : List Bool) (xs : List ℤ) → correlation (map not bs) xs ≡ negℤ (correlation bs xs)
+pub correlation-not : (bs : List Bool) (xs : List ℤ) → correlation (map not bs) xs ≡ negℤ (correlation bs xs)
 unfolding correlation
 correlation-not [] xs = refl
 correlation-not (b ∷ bs) [] = refl

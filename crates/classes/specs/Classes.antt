@@ -2,10 +2,10 @@
 -- counted from 0 here, and lists of six have the last column first, as they grow from the first column on.
 use mathlib.Core.Bool.{Bool}
 use mathlib.Core.List.{List, [], _∷_}
-use Prim.Native.Nat.{ℕ, _*_, _/_, _%_}
-use lib.Dec.{eqb}
+use Prim.Native.Nat.{ℕ, _-_, _*_, _/_, _%_}
+use lib.Dec.{leb, eqb}
 use lib.IntN.{ℤ, pos}
-use lib.ListN.{length, take, drop}
+use lib.ListN.{length, getD, take, drop}
 use Rattle.contest.specs.Readings.{correlation}
 use Rattle.contest.specs.Figures.{reached}
 use Rattle.code.specs.Characters.{fourth, fifth, sixth}
@@ -15,6 +15,10 @@ use Rattle.classes.specs.Codewords.{inPositions}
 -- Rule 8.1: a class is a number below this
 abbrev pub classes : ℕ
 classes = 128
+
+-- Rule 11.1, number 11: a class number exceeds 127
+abbrev pub classAbove : ℕ → Bool
+classAbove k = leb classes k
 
 -- Rules 8.1 and 3.2: the parity of class k, which is bit 11 of its messages
 abbrev pub parityOf : ℕ → ℕ
@@ -28,6 +32,10 @@ sixCharacters a b c = sixth a b c ∷ fifth a b c ∷ fourth a b c ∷ c ∷ b �
 unfoldable pub charactersOf : ℕ → List ℕ
 charactersOf k = sixCharacters (k / 16 % 4) (k / 4 % 4) (k % 4)
 
+-- Rule 8.3: the interpretation with parity p, character x and top bit t, correlated with column i of a reading
+abbrev pub columnCorrelation : List ℤ → ℕ → ℕ → ℕ → ℕ → ℤ
+columnCorrelation xs i p x t = correlation (inPositions 4 (interpretation p x t)) (take 4 (drop (4 * i) xs))
+
 -- Rule 8.3: of the interpretations with parity p and character x the one with top bit 0, as four bits from the top
 abbrev pub topZero : ℕ → ℕ → List Bool
 topZero p x = inPositions 4 (interpretation p x 0)
@@ -40,6 +48,10 @@ columnSum xs i p x = correlation (topZero p x) (take 4 (drop (4 * i) xs))
 abbrev pub columnSums : List ℤ → ℕ → List ℕ → List ℤ
 columnSums xs p [] = []
 columnSums xs p (x ∷ cs) = columnSum xs (length cs) p x ∷ columnSums xs p cs
+
+-- Rules 8.3 and 1.3: the figure of column j, 1 to 6, in class k: the sum for the class's parity and for its character there
+unfoldable pub columnFigure : List ℤ → ℕ → ℕ → ℤ
+columnFigure xs k j = columnSum xs (j - 1) (parityOf k) (getD (charactersOf k) (6 - j) 0)
 
 -- Rule 8.3: the six sums of class k
 abbrev pub classSums : List ℤ → ℕ → List ℤ

@@ -1,4 +1,4 @@
--- Filling a list's places in order: one more, four more, eight more; and that the places of an array of 64-bit numbers can be reached.
+-- Filling a list's places in order: one more, four more; and that the places of an array of 64-bit numbers can be reached.
 use mathlib.Core.Path.{_≡_, refl, _∙_}
 use mathlib.Core.List.{List}
 use Prim.Native.Nat.{ℕ, _+_, _*_, _≤_, _<_}
@@ -25,17 +25,6 @@ module _ {A : Type 0} (default : A) (Right : ℕ → A → Type 0) where
       put (n + 3) (n + 4) (omega arith) (omega arith) r3
       (put (n + 2) (n + 3) (omega arith) (omega arith) r2
       (put (n + 1) (n + 2) (omega arith) (omega arith) r1 (put n (n + 1) refl (omega arith) r0 F)))
-
-  pub put-eight : (n : ℕ) {l : ℕ} {s : List A} {z0 z1 z2 z3 z4 z5 z6 z7 : A} → n + 7 < l
-      → Right n z0 → Right (n + 1) z1 → Right (n + 2) z2 → Right (n + 3) z3
-      → Right (n + 4) z4 → Right (n + 5) z5 → Right (n + 6) z6 → Right (n + 7) z7 → Filled default Right n l s
-      → Filled default Right (n + 8) l
-      (set (set (set (set (set (set (set (set s n z0) (n + 1) z1) (n + 2) z2) (n + 3) z3) (n + 4) z4) (n + 5) z5) (n + 6) z6) (n + 7) z7)
-  put-eight n h r0 r1 r2 r3 r4 r5 r6 r7 F =
-      put (n + 7) (n + 8) (omega arith) (omega arith) r7
-      (put (n + 6) (n + 7) (omega arith) (omega arith) r6
-      (put (n + 5) (n + 6) (omega arith) (omega arith) r5
-      (put (n + 4) (n + 5) (omega arith) (omega arith) r4 (put-four n (omega arith) r0 r1 r2 r3 F))))
 
 -- ---- n places from i on, in an array of l: each stands in it, and its number and where its bytes begin fit
 

@@ -1,33 +1,27 @@
--- The sums of a class in the array of all: they are those that the reading's columns say for its characters, which are below 4.
-use mathlib.Core.Path.{_≡_}
-use mathlib.Core.List.{List}
-use Prim.Native.Nat.{ℕ, _+_, _*_, _/_, _%_, _<_}
+-- The sums of a class in the array of all: they are those that the reading's columns say for its characters.
+use mathlib.Core.Path.{_≡_, refl, ap}
+use mathlib.Core.List.{List, [], _∷_}
+use Prim.Native.Nat.{ℕ, zero, suc, _+_, _-_, _*_, _/_, _%_, _≤_, _<_}
 use native.Mathlib.Omega.{arith}
-use lib.Dec.{ltb, ltb→lt}
-use lib.Bits.{bitXor, xor-lt}
-use lib.IntN.{ℤ}
-use lib.ListN.{getD}
-use Rattle.binary.proofs.Tests.{below}
-use Rattle.code.specs.Characters.{_⊗_, w, v, products, fourth, fifth, sixth}
-use Rattle.classes.specs.Classes.{parityOf, charactersOf, classSums}
-use Rattle.columns.specs.Columns.{Sums, picks}
+use lib.IntN.{ℤ, pos}
+use lib.ListN.{length, getD}
+use borrow.Author.Tests.{lt-ltb, le-ltb}
+use Rattle.code.specs.Characters.{fourth, fifth, sixth}
+use Rattle.classes.specs.Classes.{parityOf, charactersOf, columnSum, columnFigure, classSums}
+use Rattle.classes.proofs.Characters.{fourth-small, fifth-small, sixth-small}
+use Rattle.columns.specs.Columns.{SumAt, Sums, picks, front, columnAt}
 
--- ---- the characters are below 4
+-- ---- the first of a list, the last of them first
 
-product-small : (a b : ℕ) → a < 4 → b < 4 → a ⊗ b < 4
-product-small a b ha hb = ltb→lt _ 4 (below (λ n. ltb (getD products n 0) 4) 16 tt (a * 4 + b) (omega arith))
+pub front-long : (i : ℕ) (x : List ℕ) → length (front i x) ≡ i
+front-long zero x = refl
+front-long (suc i) x = ap suc (front-long i x)
 
-module _ (a b c : ℕ) (ha : a < 4) (hb : b < 4) (hc : c < 4) where
-  pub fourth-small : fourth a b c < 4
-  fourth-small = xor-lt 2 (bitXor a b) c (xor-lt 2 a b ha hb) hc
-
-  pub fifth-small : fifth a b c < 4
-  fifth-small =
-      xor-lt 2 (bitXor (a ⊗ v) (b ⊗ w)) c (xor-lt 2 (a ⊗ v) (b ⊗ w) (product-small a v ha (omega arith)) (product-small b w hb (omega arith))) hc
-
-  pub sixth-small : sixth a b c < 4
-  sixth-small =
-      xor-lt 2 (bitXor (a ⊗ w) (b ⊗ v)) c (xor-lt 2 (a ⊗ w) (b ⊗ v) (product-small a w ha (omega arith)) (product-small b v hb (omega arith))) hc
+-- from the front's end it goes back to the list's start
+pub front-at : (n : ℕ) (x : List ℕ) (i m : ℕ) → i + m + 1 ≡ n → getD (front n x) m 0 ≡ getD x i 0
+front-at zero x i m e = absurd (omega arith)
+front-at (suc n) x i zero e = let g : n ≡ i = omega arith in ap (λ (j : ℕ). getD x j 0) g
+front-at (suc n) x i (suc m) e = front-at n x i m (omega arith)
 
 -- ---- a class of the sums
 
@@ -45,3 +39,25 @@ module _ (xs s : List ℤ) (I : Sums xs s) (k : ℕ) where
       let p = parityOf k in
       let S = I .sums in
       cc (S 5 p (sixth a b c) (omega arith) q (sixth-small a b c ha hb hc), S 4 p (fifth a b c) (omega arith) q (fifth-small a b c ha hb hc), S 3 p (fourth a b c) (omega arith) q (fourth-small a b c ha hb hc), S 2 p c (omega arith) q hc, S 1 p b (omega arith) q hb, S 0 p a (omega arith) q ha)
+
+-- ---- one column of a class
+
+module _ (xs : List ℤ) (k i : ℕ) where
+  pub figure-past : 6 ≤ i → columnAt xs k i ≡ pos 0
+  figure-past h = simp (le-ltb i 6 h)
+
+  pub figure-within : i < 6 → columnAt xs k i ≡ columnFigure xs k (i + 1)
+  figure-within h = simp (lt-ltb i 6 h)
+
+  -- of the eight sums of column i, the one in the class's place
+  pub figure-here : i < 6 → (x : List ℕ) → front 6 x ≡ charactersOf k → getD x i 0 < 4
+      → {z : ℤ} → SumAt xs (8 * i + (k / 64 % 2 * 4 + getD x i 0)) z → z ≡ columnAt xs k i
+  unfolding columnFigure
+  figure-here h x e s {z} S =
+      let j = 8 * i + (k / 64 % 2 * 4 + getD x i 0) in
+      let column : j / 8 ≡ i = omega arith in
+      let parity : j % 8 / 4 ≡ parityOf k = omega arith in
+      let character : j % 8 % 4 ≡ getD x i 0 = omega arith in
+      let before : i + 1 - 1 ≡ i = omega arith in
+      let there : getD (charactersOf k) (6 - (i + 1)) 0 ≡ getD x i 0 = rw (← e) (front-at 6 x i (6 - (i + 1)) (omega arith)) in
+      simp (lt-ltb i 6 h, before, there) (rw (column, parity, character) at (S .value))

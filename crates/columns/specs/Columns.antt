@@ -1,11 +1,13 @@
 -- What the functions over a reading promise: its columns' sums (8.3) in an array of 48, eight a column.
 use mathlib.Core.Path.{_≡_}
+use mathlib.Core.Bool.{cond}
 use mathlib.Core.List.{List, [], _∷_}
-use Prim.Native.Nat.{ℕ, _+_, _*_, _/_, _%_, _<_}
+use Prim.Native.Nat.{ℕ, zero, suc, _+_, _*_, _/_, _%_, _<_}
+use lib.Dec.{ltb}
 use lib.IntN.{ℤ, pos, _+ℤ_, _-ℤ_}
 use lib.ListN.{length, getD}
 use Rattle.signed.specs.Within.{Within}
-use Rattle.classes.specs.Classes.{columnSum}
+use Rattle.classes.specs.Classes.{columnSum, columnFigure}
 use Rattle.columns.specs.Places.{Filled}
 use Rattle.columns.specs.declared.Pair.{Pair}
 
@@ -45,6 +47,15 @@ pub record Sums (xs s : List ℤ) : Type 0 where
 abbrev pub picks : List ℤ → ℕ → List ℕ → List ℤ
 picks s p [] = []
 picks s p (x ∷ cs) = getD s (place (length cs) p x) (pos 0) ∷ picks s p cs
+
+-- the first i of a list, the last of them first
+abbrev pub front : ℕ → List ℕ → List ℕ
+front zero x = []
+front (suc i) x = getD x i 0 ∷ front i x
+
+-- Rule 8.3: the figure of column i, counted from 0, in class k; 0 past the last column
+abbrev pub columnAt : List ℤ → ℕ → ℕ → ℤ
+columnAt xs k i = cond (ltb i 6) (columnFigure xs k (i + 1)) (pos 0)
 
 -- above all sizes, and above what six of them come to
 abbrev pub far : ℕ

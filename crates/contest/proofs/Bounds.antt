@@ -5,7 +5,7 @@ use Prim.Native.Nat.{ℕ, zero, suc, _+_, _*_, _≤_, _<_}
 use native.Mathlib.Omega.{arith}
 use native.Mathlib.Nat.{add-mul}
 use lib.IntN.{ℤ, pos, natAbs}
-use lib.ListN.{length, getD}
+use lib.ListN.{length, getD, take, drop}
 use Rattle.signed.specs.Sign.{lo, signed}
 use Rattle.signed.specs.Within.{Within}
 use Rattle.signed.proofs.Parts.{lo-neg, size-parts}
@@ -26,6 +26,19 @@ pub at-range : (B : ℕ) (xs : List ℤ) → ((k : ℕ) → k < length xs → Wi
 unfolding InRange
 at-range B [] w = tt
 at-range B (x ∷ xs) w = (w 0 (omega arith), at-range B xs (λ k h. w (suc k) (omega arith)))
+
+-- and of a part
+pub take-range : (B n : ℕ) (xs : List ℤ) → InRange B xs → InRange B (take n xs)
+unfolding InRange
+take-range B zero xs r = tt
+take-range B (suc n) [] r = tt
+take-range B (suc n) (x ∷ xs) r = (r .0, take-range B n xs (r .1))
+
+pub drop-range : (B n : ℕ) (xs : List ℤ) → InRange B xs → InRange B (drop n xs)
+unfolding InRange
+drop-range B zero xs r = r
+drop-range B (suc n) [] r = tt
+drop-range B (suc n) (x ∷ xs) r = drop-range B n xs (r .1)
 
 -- every reading lies in some range: that of its weight
 weight-at : (xs : List ℤ) (k : ℕ) → natAbs (getD xs k (pos 0)) ≤ weight xs

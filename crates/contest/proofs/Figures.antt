@@ -1,21 +1,23 @@
 -- The largest correlation among the words of one parity: all the sizes where the signs have that parity, and twice the least size less where
 -- they have the other.
 use mathlib.Core.Path.{_≡_, refl, sym, ap, _∙_}
-use mathlib.Core.Logic.{_≢_}
+use mathlib.Core.Logic.{_≢_, _⊎_, inl, inr}
 use mathlib.Core.Bool.{Bool, true, false, cond}
 use mathlib.Core.List.{List, [], _∷_}
 use Prim.Native.Nat.{ℕ, suc, _+_, _*_, _^_, _≤_, _<_, min}
 use native.Mathlib.Nat.{min-eq-left, min-eq-right}
 use native.Mathlib.Omega.{arith}
 use native.Mathlib.Decide.{decLt}
-use lib.IntN.{ℤ, pos, natAbs, _-ℤ_}
+use lib.IntN.{ℤ, pos, negsuc, natAbs, _-ℤ_}
 use lib.ListN.{length}
+use Rattle.signed.specs.Sign.{sign}
+use Rattle.signed.proofs.Parts.{ints, parts, parts-eq, hi-neg, lo-neg}
 use Rattle.contest.specs.Words.{differ, odd}
 use Rattle.contest.specs.Readings.{InRange, correlation}
 use Rattle.contest.specs.Losses.{weight}
 use Rattle.contest.specs.Numbers.{tops}
 use Rattle.contest.specs.Signs.{State}
-use Rattle.contest.specs.Figures.{signs, least, reached}
+use Rattle.contest.specs.Figures.{signs, least, charged, reached, Favours, Favoured}
 use Rattle.contest.proofs.Signs.{empty, new-least, new-second, new-neither}
 use Rattle.contest.proofs.Block.{best-same, best-other}
 use Rattle.contest.proofs.Runs.{Figure}
@@ -79,3 +81,41 @@ module _ (F : ℕ → ℤ) (n i B : ℕ) (p : Bool) (f : ℤ) (fs : List ℤ) (r
       go false true e o = figure-other F n i B f fs range long two is (λ d. apart (e ∙ d ∙ o))
       go true false e o = figure-other F n i B f fs range long two is (λ d. apart (sym o ∙ sym d ∙ sym e))
       go true true e o = figure-same F n i B f fs range long two is (o ∙ e)
+
+-- ---- a zero counts as either
+
+own : (f : ℤ) (b : Bool) → Favours f b → (b ≡ sign f) ⊎ (natAbs f ≡ 0)
+own (pos n) false h = inl refl
+own (pos n) true h = inr (omega (ints, hi-neg (pos n), lo-neg (pos n)))
+own (negsuc n) false h = absurd (omega ints)
+own (negsuc n) true h = inl refl
+
+-- favoured bits are the signs, or the least of the sizes is zero
+signs-or-zero : (f : ℤ) (fs : List ℤ) (bs : List Bool) → Favoured (f ∷ fs) bs → (bs ≡ signs (f ∷ fs)) ⊎ (least f fs ≡ 0)
+unfolding Favoured
+signs-or-zero f fs [] h = absurd h
+signs-or-zero f [] (b ∷ bs) h = go (own f b (h .0))
+  where
+    go : (b ≡ sign f) ⊎ (natAbs f ≡ 0) → (b ∷ bs ≡ sign f ∷ []) ⊎ (natAbs f ≡ 0)
+    go (inl s) = inl (rw (s, h .1) refl)
+    go (inr z) = inr z
+signs-or-zero f (g ∷ fs) (b ∷ bs) h = go (own f b (h .0)) (signs-or-zero g fs bs (h .1))
+  where
+    go : (b ≡ sign f) ⊎ (natAbs f ≡ 0) → (bs ≡ signs (g ∷ fs)) ⊎ (least g fs ≡ 0)
+        → (b ∷ bs ≡ signs (f ∷ g ∷ fs)) ⊎ (min (natAbs f) (least g fs) ≡ 0)
+    go (inl s) (inl e) = inl (rw (s, e) refl)
+    go (inr z) d = inr (rw z (min-eq-left (omega arith)))
+    go (inl s) (inr z) = inr (rw z (min-eq-right (omega arith)))
+
+-- Rule 8.5: whichever bits are favoured, the figure is the same
+pub reached-either : (p : Bool) (f : ℤ) (fs : List ℤ) (bs : List Bool) → Favoured (f ∷ fs) bs → reached p f fs ≡ charged p bs f fs
+reached-either p f fs bs h = go (signs-or-zero f fs bs h)
+  where
+    -- where the least is zero nothing is taken off
+    whole : (b : Bool) → least f fs ≡ 0 → cond b (pos (weight (f ∷ fs)) -ℤ pos (2 * least f fs)) (pos (weight (f ∷ fs))) ≡ pos (weight (f ∷ fs))
+    whole false z = refl
+    whole true z = rw z (parts-eq _ _ (simp parts (omega arith)))
+
+    go : (bs ≡ signs (f ∷ fs)) ⊎ (least f fs ≡ 0) → reached p f fs ≡ charged p bs f fs
+    go (inl e) = ap (λ (cs : List Bool). charged p cs f fs) (sym e)
+    go (inr z) = whole (differ p (odd (signs (f ∷ fs)))) z ∙ sym (whole (differ p (odd bs)) z)

@@ -1,4 +1,4 @@
--- What a class's columns come to, column by column, and its two largest from that; its characters, and its sums in the array of all.
+-- What a class's columns come to, column by column, and its two largest from that; its sums in the array of all.
 use mathlib.Core.Path.{_≡_, refl, sym, ap, _∙_}
 use mathlib.Core.Logic.{_≢_}
 use mathlib.Core.Bool.{Bool, not}
@@ -22,13 +22,12 @@ use Rattle.contest.specs.Signs.{State}
 use Rattle.contest.proofs.Signs.{new-least, new-second, new-neither}
 use Rattle.contest.proofs.Numbers.{one-small, one-not, one-differ, bit-same, bit-other, val-small}
 use Rattle.contest.proofs.Block.{best-same, best-other}
-use Rattle.code.specs.Characters.{fourth, fifth, sixth}
 use Rattle.classes.specs.Codewords.{word}
 use Rattle.classes.specs.Classes.{classes, parityOf, charactersOf}
 use Rattle.classes.proofs.Classes.{in-class}
 use Rattle.columns.specs.Columns.{Sums, picks, far}
-use Rattle.columns.proofs.Picking.{fourth-small, fifth-small, sixth-small, picks-are}
-use Rattle.details.specs.Details.{Held, Few, Tops, inClass, front}
+use Rattle.columns.proofs.Picking.{picks-are}
+use Rattle.details.specs.Details.{Held, Few, Tops, inClass}
 use Rattle.details.specs.declared.Sizes.{Sizes}
 
 -- ---- one column more
@@ -105,23 +104,7 @@ module _ (t : Sizes) (p base : ℕ) (f : ℕ → ℤ) (fs : List ℤ) (H : Held 
       rw (H .total-is, H .other-is)
       (best-other f 5 base (H .state) (omega arith) six is (bit-other (odd (H .signs)) p h (λ e. d (H .odd-is ∙ e))))
 
--- ---- the characters of a class
-
-module _ (a b c : ℕ) (ha : a < 4) (hb : b < 4) (hc : c < 4) where
-  pub characters-small : (j : ℕ) → getD (a ∷ b ∷ c ∷ fourth a b c ∷ fifth a b c ∷ sixth a b c ∷ []) j 0 < 4
-  characters-small zero = ha
-  characters-small (suc zero) = hb
-  characters-small (suc (suc zero)) = hc
-  characters-small (suc (suc (suc zero))) = fourth-small a b c ha hb hc
-  characters-small (suc (suc (suc (suc zero)))) = fifth-small a b c ha hb hc
-  characters-small (suc (suc (suc (suc (suc zero))))) = sixth-small a b c ha hb hc
-  characters-small (suc (suc (suc (suc (suc (suc j)))))) = omega arith
-
 -- ---- a class of the reading's sums
-
-pub front-long : (i : ℕ) (x : List ℕ) → length (front i x) ≡ i
-front-long zero x = refl
-front-long (suc i) x = ap suc (front-long i x)
 
 pub picks-long : (s : List ℤ) (p : ℕ) (cs : List ℕ) → length (picks s p cs) ≡ length cs
 picks-long s p [] = refl

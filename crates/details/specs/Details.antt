@@ -1,11 +1,11 @@
 -- What the functions over one class promise. Promises speak of every list of sums that explains a value, so no list has to be handed over.
 use mathlib.Core.Path.{_≡_}
 use mathlib.Core.Bool.{Bool}
-use mathlib.Core.List.{List, [], _∷_}
-use Prim.Native.Nat.{ℕ, zero, suc, _+_, _*_, _%_, _≤_, _<_}
+use mathlib.Core.List.{List}
+use Prim.Native.Nat.{ℕ, _+_, _*_, _%_, _≤_, _<_}
 use lib.Dec.{eqb}
 use lib.IntN.{ℤ}
-use lib.ListN.{length, getD}
+use lib.ListN.{length}
 use Rattle.contest.specs.Words.{one, odd}
 use Rattle.contest.specs.Readings.{correlation}
 use Rattle.contest.specs.Largest.{Best}
@@ -51,8 +51,3 @@ Settled t p base r =
 -- Rules 8.1 to 8.3: of the 48 numbers s the correlation of message m, which class k has: that of its top bits with the class's sums
 abbrev pub inClass : List ℤ → ℕ → ℕ → ℤ
 inClass s k m = correlation (tops 5 (eqb (parityOf k) 1) (m % 32)) (picks s (parityOf k) (charactersOf k))
-
--- the first i of a list, the last of them first
-abbrev pub front : ℕ → List ℕ → List ℕ
-front zero x = []
-front (suc i) x = getD x i 0 ∷ front i x

@@ -3,11 +3,12 @@ ghost use mathlib.Core.Path.{_≡_};
 ghost use mathlib.Core.List.{List, [], _∷_};
 ghost use Prim.Native.Nat.{ℕ, _+_, _*_, _<_};
 ghost use lib.IntN.{ℤ};
-ghost use lib.ListN.{length, getD};
+ghost use lib.ListN.{length};
 ghost use Rattle.signed.specs.Within.{Within};
 ghost use Rattle.classes.specs.Classes.{classes, parityOf, charactersOf};
 ghost use Rattle.columns.specs.Columns.{SumsWithin, picks};
-ghost use Rattle.details.specs.Details.{Held, Few, Tops, Settled, inClass, front};
+ghost use Rattle.details.specs.Details.{Held, Few, Tops, Settled, inClass};
+use columns::characters;
 use contest::Keeper;
 use signed::bit;
 use signed::smaller;
@@ -66,24 +67,6 @@ fn with_column(t: Sizes, f: i64) -> Sizes
         signs: signs,
         other: 2 * t.other + s,
     }
-}
-
-// Products of characters, four in a row: by 0, by 1, by w, by v.
-const PRODUCTS: [usize; 16] = [0, 0, 0, 0, 0, 1, 2, 3, 0, 2, 3, 1, 0, 3, 1, 2];
-
-// The characters of class k, the first column's first.
-fn characters(k: usize) -> [usize; 6]
-    requires { ⌜ k < classes ⌝ }
-    ensures { λ r. ⌜ front 6 r ≡ charactersOf k ⌝ }
-    ensures { λ r. ⌜ ((j : ℕ) → getD r j 0 < 4) ⌝ }
-{
-    let a = k / 16 % 4;
-    let b = k / 4 % 4;
-    let c = k % 4;
-    let d = a ^ b ^ c;
-    let e = PRODUCTS[a * 4 + 3] ^ PRODUCTS[b * 4 + 2] ^ c;
-    let f = PRODUCTS[a * 4 + 2] ^ PRODUCTS[b * 4 + 3] ^ c;
-    [a, b, c, d, e, f]
 }
 
 // Column i more, for parity p and character x.

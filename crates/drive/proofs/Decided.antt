@@ -10,6 +10,7 @@ use Rattle.bytewise.specs.Calls.{writeBytesRule, readBytesRule}
 use Rattle.hard.specs.Answers.{Correction}
 use Rattle.hard.specs.Calls.{Corrects}
 use Rattle.hard.proofs.Decided.{correct-once}
+use Rattle.favours.specs.Calls.{columnFigureRule}
 use Rattle.soft.specs.declared.kinds.Soft.{Soft}
 use Rattle.soft.specs.Calls.{ClassFigureRule, SoftRule}
 use Rattle.soft.proofs.Decided.{classFigure-once, soft-once}
@@ -39,6 +40,9 @@ candidates-decided word before after later status other = hands-candidates-decid
 
 pub classFigure-decided : (reading : List ℤ) (class : ℕ) → Decided {M = ℤ} (HandsBackOne (ClassFigureRule reading class) itself)
 classFigure-decided reading class before after later status other = hands-one-decided (classFigure-once reading class)
+
+pub columnFigure-decided : (reading : List ℤ) (class column : ℕ) → Decided (HandsBack (columnFigureRule reading class column) itself)
+columnFigure-decided reading class column before after later status other = hands-decided
 
 pub soft-decided : (reading : List ℤ) → Decided {M = Soft} (HandsBackOne (SoftRule reading) itself)
 soft-decided reading before after later status other = hands-one-decided (soft-once reading)

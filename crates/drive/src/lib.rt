@@ -3,6 +3,7 @@ ghost use Rattle.golay.specs.Calls.{encodeRule, readRule, syndromeRule};
 ghost use Rattle.bytewise.specs.Bytes.{bytesOf};
 ghost use Rattle.bytewise.specs.Calls.{writeBytesRule, readBytesRule};
 ghost use Rattle.hard.specs.Calls.{Corrects};
+ghost use Rattle.favours.specs.Calls.{columnFigureRule};
 ghost use Rattle.soft.specs.Calls.{ClassFigureRule, SoftRule};
 ghost use Rattle.quick.specs.Quick.{QuickRule};
 ghost use Rattle.hands.specs.Hands.{HandsBack, HandsBackOne, HandsBackCandidates, itself};
@@ -10,6 +11,7 @@ ghost use Rattle.drive.specs.Outputs.{correction, values};
 use bytewise::kinds::ReadBytesAnswer;
 use bytewise::kinds::WriteBytesAnswer;
 use candidates::kinds::CandidatesAnswer;
+use favours::kinds::ColumnFigureAnswer;
 use golay::kinds::EncodeAnswer;
 use golay::kinds::Message;
 use golay::kinds::ReadAnswer;
@@ -92,6 +94,24 @@ pub extern "C" fn garthumor_class_figure(reading: &[i32], class_number: u32, fig
             0
         }
         ClassFigureAnswer::Refused(reason) => golay::refusal_number(reason),
+    }
+}
+
+#[no_mangle]
+pub extern "C" fn garthumor_column_figure(
+    reading: &[i32],
+    class_number: u32,
+    column: u32,
+    figure: &mut i64,
+) -> u8
+    ensures { λ r. ⌜ HandsBack (columnFigureRule (now (reading .entry)) «class_number» column) itself (now (figure .entry)) (now (figure .exit)) r ⌝ }
+{
+    match favours::column_figure(reading, class_number, column) {
+        ColumnFigureAnswer::Accepted(f) => {
+            *figure = f;
+            0
+        }
+        ColumnFigureAnswer::Refused(reason) => golay::refusal_number(reason),
     }
 }
 

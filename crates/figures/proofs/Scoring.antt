@@ -23,10 +23,10 @@ use Rattle.contest.proofs.Numbers.{one-small, bit-same, bit-other}
 use Rattle.contest.proofs.Codes.{codeSum, codeLeast, codes-weight, codes-odd, codes-least}
 use Rattle.code.specs.Characters.{fourth, fifth, sixth}
 use Rattle.classes.specs.Classes.{classes, parityOf, charactersOf}
+use Rattle.classes.proofs.Characters.{fourth-small, fifth-small, sixth-small}
 use Rattle.columns.specs.Places.{Filled}
 use Rattle.columns.specs.Columns.{SumsWithin, place, far}
 use Rattle.columns.proofs.Filling.{Part, single}
-use Rattle.columns.proofs.Picking.{fourth-small, fifth-small, sixth-small}
 use Rattle.pairs.specs.Pairs.{widest, firstOf, secondOf, Pairs}
 use Rattle.pairs.proofs.Pairing.{padded, pairs-within}
 use Rattle.figures.specs.Figures.{reachedFrom, CodeAt, Codes, Usable, FirstTwo, middleOf, lastOf, scored, figureFrom, figureOf, figureAt}

@@ -1,12 +1,12 @@
 -- Two answers that a promise allows are equal: each call's answer can be made again from the number and the values that it stands for.
 -- Assumes nothing.
 use mathlib.Core.Path.{_≡_, refl, sym, ap, _∙_}
-use mathlib.Core.Bool.{Bool, true, false}
+use mathlib.Core.Bool.{Bool, true, false, cond}
 use mathlib.Core.List.{List, [], _∷_}
-use Prim.Native.Nat.{ℕ, _-_}
-use lib.ListN.{getD}
+use Prim.Native.Nat.{ℕ}
+use lib.Dec.{eqb}
 use Rattle.golay.specs.declared.kinds.Refusal.{Refusal}
-use Rattle.golay.specs.declared.kinds.Refusal.the-variants.{WrongLength, MostNegative, MessageAbove, WordAbove, NotCodeword, Tied, DistanceFour, NotDistanceFour, NoMark, CutShort, ClassAbove}
+use Rattle.golay.specs.declared.kinds.Refusal.the-variants.{WrongLength, MostNegative, MessageAbove, WordAbove, NotCodeword, Tied, DistanceFour, NotDistanceFour, NoMark, CutShort, ClassAbove, NoColumn}
 use Rattle.golay.specs.declared.kinds.EncodeAnswer.{EncodeAnswer}
 use Rattle.golay.specs.declared.kinds.EncodeAnswer.the-variants as encode
 use Rattle.golay.specs.declared.kinds.ReadAnswer.{ReadAnswer}
@@ -29,13 +29,17 @@ pub refuse-once : {A : Type 0} {Next : Answer A → Type 0} (r : Refusal) (test 
 refuse-once r true once a b p q = p ∙ sym q
 refuse-once r false once a b p q = once a b p q
 
--- the reasons by their numbers, which start at 1
+-- all reasons, and the first of them that has a number
 abbrev reasons : List Refusal
 reasons =
-    WrongLength ∷ MostNegative ∷ MessageAbove ∷ WordAbove ∷ NotCodeword ∷ Tied ∷ DistanceFour ∷ NotDistanceFour ∷ NoMark ∷ CutShort ∷ ClassAbove ∷ []
+    WrongLength ∷ MostNegative ∷ MessageAbove ∷ WordAbove ∷ NotCodeword ∷ Tied ∷ DistanceFour ∷ NotDistanceFour ∷ NoMark ∷ CutShort ∷ ClassAbove ∷ NoColumn ∷ []
+
+abbrev first : List Refusal → ℕ → Refusal
+first [] n = WrongLength
+first (r ∷ rs) n = cond (eqb (number r) n) r (first rs n)
 
 abbrev pub reason : ℕ → Refusal
-reason n = getD reasons (n - 1) WrongLength
+reason n = first reasons n
 
 pub reason-number : (r : Refusal) → reason (number r) ≡ r
 reason-number WrongLength = refl
@@ -49,6 +53,7 @@ reason-number NotDistanceFour = refl
 reason-number NoMark = refl
 reason-number CutShort = refl
 reason-number ClassAbove = refl
+reason-number NoColumn = refl
 
 encode-again : Answer ℕ → EncodeAnswer
 encode-again (accepted x) = encode.Accepted (record { 0 = x })

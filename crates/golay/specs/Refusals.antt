@@ -1,7 +1,7 @@
 -- Rule 11.1: the number of each reason, and when it applies.
 use Prim.Native.Nat.{ℕ}
 use Rattle.golay.specs.declared.kinds.Refusal.{Refusal}
-use Rattle.golay.specs.declared.kinds.Refusal.the-variants.{WrongLength, MostNegative, MessageAbove, WordAbove, NotCodeword, Tied, DistanceFour, NotDistanceFour, NoMark, CutShort, ClassAbove}
+use Rattle.golay.specs.declared.kinds.Refusal.the-variants.{WrongLength, MostNegative, MessageAbove, WordAbove, NotCodeword, Tied, DistanceFour, NotDistanceFour, NoMark, CutShort, ClassAbove, NoColumn}
 
 abbrev pub number : Refusal → ℕ
 -- a reading has other than 24 confidences, a buffer for a codeword other than 3 bytes, or the slots for candidates are other than 6
@@ -26,3 +26,5 @@ number NoMark = 9
 number CutShort = 10
 -- a class number exceeds 127
 number ClassAbove = 11
+-- a column number is not 1 to 6
+number NoColumn = 18

@@ -52,6 +52,7 @@ pub fn refusal_number(reason: Refusal) -> u8
         Refusal::NoMark => 9,
         Refusal::CutShort => 10,
         Refusal::ClassAbove => 11,
+        Refusal::NoColumn => 18,
     }
 }
 

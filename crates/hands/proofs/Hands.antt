@@ -6,7 +6,7 @@ use mathlib.Core.List.{List}
 use Prim.Native.Nat.{ℕ, _<_}
 use lib.Dec.{lit<}
 use Rattle.golay.specs.declared.kinds.Refusal.{Refusal}
-use Rattle.golay.specs.declared.kinds.Refusal.the-variants.{WrongLength, MostNegative, MessageAbove, WordAbove, NotCodeword, Tied, DistanceFour, NotDistanceFour, NoMark, CutShort, ClassAbove}
+use Rattle.golay.specs.declared.kinds.Refusal.the-variants.{WrongLength, MostNegative, MessageAbove, WordAbove, NotCodeword, Tied, DistanceFour, NotDistanceFour, NoMark, CutShort, ClassAbove, NoColumn}
 use Rattle.golay.specs.Refusals.{number}
 use Rattle.golay.specs.Answers.{Answer, accepted, refused}
 use Rattle.bytewise.specs.Answers.{lent}
@@ -28,6 +28,7 @@ number-above-zero NotDistanceFour = lit< tt
 number-above-zero NoMark = lit< tt
 number-above-zero CutShort = lit< tt
 number-above-zero ClassAbove = lit< tt
+number-above-zero NoColumn = lit< tt
 
 -- Rule 11.7: a call that answers returns 0, and one that refuses its refusal's number, which is above 0
 module _ {A M : Type 0} {made : A → M} {before after : M} {status : ℕ} where

@@ -1,2 +1,3 @@
 pub mod Sign
 pub mod Within
+pub mod Opposites

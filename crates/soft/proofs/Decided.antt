@@ -19,6 +19,7 @@ use Rattle.golay.specs.Refusals.{number}
 use Rattle.golay.specs.Answers.{Answer, accepted, refused, Refuse}
 use Rattle.golay.proofs.Decided.{said-once, refuse-once, reason, reason-number}
 use Rattle.classes.specs.Codewords.{word}
+use Rattle.classes.specs.Classes.{classAbove}
 use Rattle.classes.proofs.Codewords.{family}
 use Rattle.soft.specs.declared.kinds.Soft.{Soft}
 use Rattle.soft.specs.declared.kinds.SoftAnswer.{SoftAnswer}
@@ -28,7 +29,7 @@ use Rattle.soft.specs.declared.kinds.ClassFigureAnswer.the-variants as f
 use Rattle.soft.specs.Answers.{softAnswer, classFigureAnswer}
 use Rattle.golay.specs.Calls.{wrongLength}
 use Rattle.reading.specs.Checks.{mostNegative}
-use Rattle.soft.specs.Calls.{classAbove, told, Decides, SoftRule, HasFigure, ClassFigureRule}
+use Rattle.soft.specs.Calls.{told, Decides, SoftRule, HasFigure, ClassFigureRule}
 use Rattle.soft.proofs.Rules.{soft-decides}
 
 decides-once : (xs : List ℤ) (a b : Answer Soft) → Decides xs a → Decides xs b → a ≡ b

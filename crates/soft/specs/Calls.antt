@@ -1,9 +1,7 @@
 -- Rule 11.3: what the soft calls answer, for every reading, their refusals in the order of rule 11.2.
 use mathlib.Core.Path.{_≡_}
-use mathlib.Core.Bool.{Bool}
 use mathlib.Core.List.{List}
 use Prim.Native.Nat.{ℕ, _+_, _*_}
-use lib.Dec.{leb}
 use lib.IntN.{ℤ, pos}
 use Rattle.contest.specs.Readings.{scores}
 use Rattle.contest.specs.Largest.{Largest}
@@ -16,12 +14,8 @@ use Rattle.golay.specs.Answers.{Answer, accepted, refused, Refuse}
 use Rattle.golay.specs.Calls.{wrongLength}
 use Rattle.reading.specs.Checks.{mostNegative}
 use Rattle.classes.specs.Codewords.{word}
-use Rattle.classes.specs.Classes.{classes}
+use Rattle.classes.specs.Classes.{classAbove}
 use Rattle.soft.specs.declared.kinds.Soft.{Soft}
-
--- Rule 11.1, number 11: a class number exceeds 127
-abbrev pub classAbove : ℕ → Bool
-classAbove k = leb classes k
 
 -- Rules 7.1 and 7.2: the codeword of message m with this message, its correlation and its reserve ρ
 abbrev pub values : List ℤ → ℕ → ℕ → Soft

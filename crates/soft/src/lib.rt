@@ -17,6 +17,7 @@ ghost use Rattle.soft.specs.Keepers.{Wide};
 
 pub mod kinds;
 
+use columns::CLASSES;
 use columns::column_sums;
 use contest::Keeper;
 use details::class_best;
@@ -28,8 +29,6 @@ use golay::kinds::Refusal;
 use kinds::ClassFigureAnswer;
 use kinds::Soft;
 use kinds::SoftAnswer;
-
-const CLASSES: u32 = 128;
 
 // The two largest of all. The runner-up has the next figure, or it is the winner's neighbour in its own class: one class alone is looked into.
 fn two_largest(sums: &[i64; 48]) -> Keeper

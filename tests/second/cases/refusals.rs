@@ -98,6 +98,34 @@ fn of_readings(call: impl Fn(Vec<i32>) -> Case, clear: u8, tied: &[i32], tie: u8
     rows
 }
 
+/// The number that comes first where a length, a confidence, a class and a column may all be wrong.
+fn first_of_four(length: usize, confidence: i32, class: u32, column: u32) -> u8 {
+    let wrong = [
+        (1, length != POSITIONS),
+        (2, confidence == FORBIDDEN),
+        (11, class > 127),
+        (18, !(1..=6).contains(&column)),
+    ];
+    wrong.iter().find(|row| row.1).map_or(0, |row| row.0)
+}
+
+pub fn favours() -> Vec<Row> {
+    let mut rows = Vec::new();
+    for length in [0, 23, 24, 25] {
+        for confidence in [FORBIDDEN, FORBIDDEN + 1] {
+            for class in [0, 127, 128, u32::MAX] {
+                for column in [0, 1, 6, 7, u32::MAX] {
+                    rows.push((
+                        first_of_four(length, confidence, class, column),
+                        Case::ColumnFigure(class, column, vec![confidence; length]),
+                    ));
+                }
+            }
+        }
+    }
+    rows
+}
+
 pub fn soft() -> Vec<Row> {
     let mut rows = of_readings(Case::Soft, 0, &zeros(), 6);
     for (number, class) in [(0, 0), (0, 127), (11, 128), (11, u32::MAX)] {

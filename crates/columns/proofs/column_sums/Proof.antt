@@ -46,7 +46,7 @@ loop-again c =
     let l = c .before .before .before .before .before in
     let upper = c .before .before .before .pair-at .ensures .0 in
     let lower = c .before .before .pair-at2 .ensures .0 in
-    (omega arith, c .put-column .ensures _ (l .before .pre .long) upper lower (l .loop .inv .1))
+    (omega arith, c .put-column .ensures _ upper lower (l .loop .inv .1))
 
 returns : tie.Need-returns Inv-loop μ-loop
 returns c = let e : c .before .loop .i ≡ 6 = omega arith in all-sums (rw e at (c .before .loop .inv .1))

@@ -1,168 +1,82 @@
--- `columns::put_column` meets its contract: each of the eight sums is one of the column's, in its place.
-use Prim.Native.Nat.{_*_}
+-- `columns::put_column` meets its contract. The invariant: the sums passed stand in their places.
+use mathlib.Core.Path.{_≡_, _∙_}
+use mathlib.Core.List.{List}
+use Prim.Native.Nat.{_+_, _-_, _*_, _≤_}
 use native.Mathlib.Omega.{arith}
 use lib.Dec.{lit<, lit≤}
-use Rattle.signed.proofs.Locals.{sum-fits, sum-reads, diff-fits, diff-reads}
-use Rattle.columns.specs.Columns.{Narrow}
-use Rattle.columns.proofs.Filling.{Part, start-in, start-fits, start-bytes, part-in, part-fits, part-bytes}
-use Rattle.columns.proofs.Summing.{eight, put-column}
+use lib.IntN.{ℤ, pos}
+use lib.ListN.{length, length-set}
+use Rattle.signed.proofs.Locals.{reads}
+use Rattle.columns.specs.Places.{Filled}
+use Rattle.columns.specs.Columns.{PairOf, SumAt, SumsUpTo}
+use Rattle.columns.proofs.Filling.{put}
 use Rattle.columns.proofs.put_column.Statement.{statement}
 use Rattle.columns.proofs.put_column.Tie as tie
 
-upper : (c : tie.After-struct-told4) → Narrow (c .before .before .before .before .args .upper)
-upper c = c .before .before .before .before .pre .1 .0
+abbrev Inv-loop : tie.InvT-loop
+Inv-loop sums₀ i upper lower n₀ sums n =
+    (n ≤ 8)
+    × ((length sums ≡ 48)
+    × ((xs : List ℤ) → PairOf xs (4 * i) upper → PairOf xs (4 * i + 2) lower → SumsUpTo xs i sums₀ → Filled (pos 0) (SumAt xs) (8 * i + n) 48 sums))
 
-lower : (c : tie.After-struct-told4) → Narrow (c .before .before .before .before .args .lower)
-lower c = c .before .before .before .before .pre .1 .1
+abbrev μ-loop : tie.MeasureT-loop
+μ-loop sums₀ i upper lower n₀ sums n = 8 - n
 
-places : (c : tie.After-struct-told4) → Part (8 * c .before .before .before .before .args .i) 8 48
-places c = let six = c .before .before .before .before .pre .0 .0 in record { ends = omega arith; short = lit≤ tt }
+loop-holds : tie.Need-loop-holds Inv-loop μ-loop
+loop-holds c = (omega arith, (c .pre .0 .1, λ xs U L S. let e : 8 * c .args .i + 0 ≡ 8 * c .args .i = omega arith in rw e S))
 
-mul-n : tie.Need-mul-n
-mul-n c = start-fits (places c) (lit< tt)
+sum-of-requires : tie.Need-sum-of-requires Inv-loop μ-loop
+sum-of-requires c κs = (c .before .before .pre .1, omega arith)
 
-add-sums : tie.Need-add-sums
-add-sums c = sum-fits (upper c .sum) (lower c .sum) (lit< tt)
+mul-t8 : tie.Need-mul-t8 Inv-loop μ-loop
+mul-t8 c = omega arith
 
-mul-sums : tie.Need-mul-sums
-mul-sums c = start-bytes (places c) (lit< tt)
+add-t9 : tie.Need-add-t9 Inv-loop μ-loop
+add-t9 c = omega arith
 
-element-set-from-sums : tie.Need-element-set-from-sums
-element-set-from-sums c = start-in (places c) (lit< tt)
+mul-t10 : tie.Need-mul-t10 Inv-loop μ-loop
+mul-t10 c = omega arith
 
-sub-sums : tie.Need-sub-sums
-sub-sums c = diff-fits (upper c .sum) (lower c .sum) (lit< tt)
+element-set-from-sums : tie.Need-element-set-from-sums Inv-loop μ-loop
+element-set-from-sums c = omega arith
 
-add-sums-2 : tie.Need-add-sums-2
-add-sums-2 c = part-fits (places c) _ (lit< tt)
+add-n : tie.Need-add-n Inv-loop μ-loop
+add-n c = omega arith
 
-mul-sums-2 : tie.Need-mul-sums-2
-mul-sums-2 c = part-bytes (places c) _ (lit< tt)
+loop-less : tie.Need-loop-less Inv-loop μ-loop
+loop-less c = omega arith
 
-element-set-from-sums-2 : tie.Need-element-set-from-sums-2
-element-set-from-sums-2 c = part-in (places c) _ (lit< tt)
-
-add-sums-3 : tie.Need-add-sums-3
-add-sums-3 c = sum-fits (upper c .difference) (lower c .difference) (lit< tt)
-
-add-sums-4 : tie.Need-add-sums-4
-add-sums-4 c = part-fits (places c) _ (lit< tt)
-
-mul-sums-3 : tie.Need-mul-sums-3
-mul-sums-3 c = part-bytes (places c) _ (lit< tt)
-
-element-set-from-sums-3 : tie.Need-element-set-from-sums-3
-element-set-from-sums-3 c = part-in (places c) _ (lit< tt)
-
-sub-sums-2 : tie.Need-sub-sums-2
-sub-sums-2 c = diff-fits (upper c .difference) (lower c .difference) (lit< tt)
-
-add-sums-5 : tie.Need-add-sums-5
-add-sums-5 c = part-fits (places c) _ (lit< tt)
-
-mul-sums-4 : tie.Need-mul-sums-4
-mul-sums-4 c = part-bytes (places c) _ (lit< tt)
-
-element-set-from-sums-4 : tie.Need-element-set-from-sums-4
-element-set-from-sums-4 c = part-in (places c) _ (lit< tt)
-
-sub-sums-3 : tie.Need-sub-sums-3
-sub-sums-3 c = diff-fits (upper c .difference) (lower c .sum) (lit< tt)
-
-add-sums-6 : tie.Need-add-sums-6
-add-sums-6 c = part-fits (places c) _ (lit< tt)
-
-mul-sums-5 : tie.Need-mul-sums-5
-mul-sums-5 c = part-bytes (places c) _ (lit< tt)
-
-element-set-from-sums-5 : tie.Need-element-set-from-sums-5
-element-set-from-sums-5 c = part-in (places c) _ (lit< tt)
-
-add-sums-7 : tie.Need-add-sums-7
-add-sums-7 c = sum-fits (upper c .difference) (lower c .sum) (lit< tt)
-
-add-sums-8 : tie.Need-add-sums-8
-add-sums-8 c = part-fits (places c) _ (lit< tt)
-
-mul-sums-6 : tie.Need-mul-sums-6
-mul-sums-6 c = part-bytes (places c) _ (lit< tt)
-
-element-set-from-sums-6 : tie.Need-element-set-from-sums-6
-element-set-from-sums-6 c = part-in (places c) _ (lit< tt)
-
-sub-sums-4 : tie.Need-sub-sums-4
-sub-sums-4 c = diff-fits (upper c .sum) (lower c .difference) (lit< tt)
-
-add-sums-9 : tie.Need-add-sums-9
-add-sums-9 c = part-fits (places c) _ (lit< tt)
-
-mul-sums-7 : tie.Need-mul-sums-7
-mul-sums-7 c = part-bytes (places c) _ (lit< tt)
-
-element-set-from-sums-7 : tie.Need-element-set-from-sums-7
-element-set-from-sums-7 c = part-in (places c) _ (lit< tt)
-
-add-sums-10 : tie.Need-add-sums-10
-add-sums-10 c = sum-fits (upper c .sum) (lower c .difference) (lit< tt)
-
-add-t11 : tie.Need-add-t11
-add-t11 c = part-fits (places c) _ (lit< tt)
-
-mul-t14 : tie.Need-mul-t14
-mul-t14 c = part-bytes (places c) _ (lit< tt)
-
-element-set-from-sums-8 : tie.Need-element-set-from-sums-8
-element-set-from-sums-8 c = part-in (places c) _ (lit< tt)
-
-returns : tie.Need-returns
-returns c xs long U L S =
-    let six = c .before .before .before .before .pre .0 .0 in
-    rw (
-      sum-reads (upper c .sum) (lower c .sum) (lit< tt),
-      diff-reads (upper c .sum) (lower c .sum) (lit< tt),
-      sum-reads (upper c .difference) (lower c .difference) (lit< tt),
-      diff-reads (upper c .difference) (lower c .difference) (lit< tt),
-      diff-reads (upper c .difference) (lower c .sum) (lit< tt),
-      sum-reads (upper c .difference) (lower c .sum) (lit< tt),
-      diff-reads (upper c .sum) (lower c .difference) (lit< tt),
-      sum-reads (upper c .sum) (lower c .difference) (lit< tt),
+loop-again : tie.Need-loop-again Inv-loop μ-loop
+loop-again c =
+    let inv = c .before .before .loop .inv in (
+      omega arith,
+      (
+        length-set (c .before .before .loop .sums) _ _ ∙ inv .1 .0,
+        λ xs U L S.
+            let s = c .sum-of .ensures xs _ U L in
+            rw (reads (s .bound) (lit< tt)) (put (pos 0) (SumAt xs) _ _ (omega arith) (omega arith) s (inv .1 .1 xs U L S)),
+      ),
     )
-    (put-column six (eight long six U L (upper c) (lower c)) S)
+
+returns : tie.Need-returns Inv-loop μ-loop
+returns c xs U L S =
+    let l = c .before .loop in
+    let e : 8 * c .before .before .args .i + l .n ≡ 8 * (c .before .before .args .i + 1) = omega arith in
+    rw e at (l .inv .1 .1 xs U L S)
 
 pub put-column-spec : {M : Type 1} → statement M
 put-column-spec =
     tie.close
     (tie.spec
-    mul-n
-    add-sums
-    mul-sums
+    Inv-loop
+    μ-loop
+    loop-holds
+    sum-of-requires
+    mul-t8
+    add-t9
+    mul-t10
     element-set-from-sums
-    sub-sums
-    add-sums-2
-    mul-sums-2
-    element-set-from-sums-2
-    add-sums-3
-    add-sums-4
-    mul-sums-3
-    element-set-from-sums-3
-    sub-sums-2
-    add-sums-5
-    mul-sums-4
-    element-set-from-sums-4
-    sub-sums-3
-    add-sums-6
-    mul-sums-5
-    element-set-from-sums-5
-    add-sums-7
-    add-sums-8
-    mul-sums-6
-    element-set-from-sums-6
-    sub-sums-4
-    add-sums-9
-    mul-sums-7
-    element-set-from-sums-7
-    add-sums-10
-    add-t11
-    mul-t14
-    element-set-from-sums-8
+    add-n
+    loop-less
+    loop-again
     returns)

@@ -4,9 +4,10 @@ use Prim.Native.Nat.{_-_, _≤_}
 use native.Mathlib.Omega.{arith}
 use native.Mathlib.Numerals.{add-one}
 use borrow.Author.Needs.{needs}
-use Rattle.columns.specs.Columns.{picks}
-use Rattle.details.specs.Details.{Held, front}
-use Rattle.details.proofs.Sizing.{few, front-long, picks-long}
+use Rattle.columns.specs.Columns.{picks, front}
+use Rattle.columns.proofs.Picking.{front-long}
+use Rattle.details.specs.Details.{Held}
+use Rattle.details.proofs.Sizing.{few, picks-long}
 use Rattle.details.proofs.class_sizes.Statement.{statement}
 use Rattle.details.proofs.class_sizes.Tie as tie
 

@@ -1,12 +1,14 @@
--- `details::characters` meets its contract: the six characters are the definition's.
+-- `columns::characters` meets its contract: the six characters are the definition's.
 use mathlib.Core.Path.{refl}
-use Prim.Native.Nat.{_/_, _%_}
+use mathlib.Core.List.{[], _∷_}
+use Prim.Native.Nat.{_/_, _%_, _<_}
 use native.Mathlib.Omega.{arith}
 use borrow.Author.Needs.{needs}
+use Rattle.code.specs.Characters.{fourth, fifth, sixth}
 use Rattle.classes.specs.Classes.{charactersOf}
-use Rattle.details.proofs.Sizing.{characters-small}
-use Rattle.details.proofs.characters.Statement.{statement}
-use Rattle.details.proofs.characters.Tie as tie
+use Rattle.classes.proofs.Characters.{Small, small-at, fourth-small, fifth-small, sixth-small}
+use Rattle.columns.proofs.characters.Statement.{statement}
+use Rattle.columns.proofs.characters.Tie as tie
 
 mul-e : tie.Need-mul-e
 mul-e c = search needs
@@ -58,7 +60,17 @@ array-read-f-2 c = search needs
 
 returns : tie.Need-returns
 unfolding charactersOf
-returns c = let k = c .args .k in (refl, characters-small (k / 16 % 4) (k / 4 % 4) (k % 4) (omega arith) (omega arith) (omega arith))
+returns c =
+    let k = c .args .k in
+    let a = k / 16 % 4 in
+    let b = k / 4 % 4 in
+    let c = k % 4 in
+    let ha : a < 4 = omega arith in
+    let hb : b < 4 = omega arith in
+    let hc : c < 4 = omega arith in
+    let small : Small (a ∷ b ∷ c ∷ fourth a b c ∷ fifth a b c ∷ sixth a b c ∷ []) =
+    (ha, (hb, (hc, (fourth-small a b c ha hb hc, (fifth-small a b c ha hb hc, (sixth-small a b c ha hb hc, tt)))))) in
+    (refl, small-at (a ∷ b ∷ c ∷ fourth a b c ∷ fifth a b c ∷ sixth a b c ∷ []) small)
 
 pub characters-spec : {M : Type 1} → statement M
 characters-spec =
