@@ -45,13 +45,13 @@ returns-4 : tie.Need-returns-4
 returns-4 c =
     let a = c .before .before .before .before .before .args in
     let tested = c .before .before in
-    sym (column-before (a .reading .now) (a .class) (a .column) (long tested) (usable tested) (c .before .if3 .left) (c .if4 .taken))
+    sym (column-before (a .reading .now) (a .class) (a .column) (long tested) (usable tested) (c .before .if3 .left) (omega (arith, c .if4 .taken)))
 
 returns-5 : tie.Need-returns-5
 returns-5 c =
     let a = c .before .before .before .before .before .before .args in
     let tested = c .before .before .before in
-    sym (column-after (a .reading .now) (a .class) (a .column) (long tested) (usable tested) (c .before .before .if3 .left) (c .before .if4 .left) (c .if5 .taken))
+    sym (column-after (a .reading .now) (a .class) (a .column) (long tested) (usable tested) (c .before .before .if3 .left) (omega (arith, c .before .if4 .left)) (omega (arith, c .if5 .taken)))
 
 cast-i : tie.Need-cast-i
 cast-i c = search needs
@@ -65,7 +65,7 @@ returns-6 c =
     let tested = c .before .before .before .before in
     let e : a .column - 1 + 1 ≡ a .column = omega arith in
     ap accepted (toZ-ofZ (figure-fits c) ∙ c .class-column .ensures ∙ figure-within (a .reading .now) (a .class) (a .column - 1) (omega arith) ∙ ap (columnFigure (a .reading .now) (a .class)) e)
-    ∙ sym (column-within (a .reading .now) (a .class) (a .column) (long tested) (usable tested) (c .before .before .before .if3 .left) (c .before .before .if4 .left) (c .before .if5 .left))
+    ∙ sym (column-within (a .reading .now) (a .class) (a .column) (long tested) (usable tested) (c .before .before .before .if3 .left) (omega (arith, c .before .before .if4 .left)) (omega (arith, c .before .if5 .left)))
 
 pub column-figure-spec : {M : Type 1} → statement M
 column-figure-spec =
