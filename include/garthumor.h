@@ -17,12 +17,12 @@
  *                each confidence moves, added up, is the change: any that is less than the reserve
  *                keeps the answer, some change of exactly the reserve loses it (7.5 to 7.7)
  *   class        class k, 0 to 127, is the 32 codewords of the messages 32 k to 32 k + 31 (8.1)
- *   figure       of a class: the largest correlation in it, 0 to 51,539,607,528 (8.2)
  *   column       column j, 1 to 6, is the positions 4 j - 3 to 4 j, the first on top (1.3). In a
  *                class it has two interpretations, opposite in all four bits (1.10)
- *   figure       of a column in a class: positive where its confidences favour the interpretation
- *                with top bit 0, negative where that with top bit 1, 0 where neither; its size is
- *                what the favoured one brings, at most 8,589,934,588 (8.3)
+ *   figure       of a class: the largest correlation in it, 0 to 51,539,607,528 (8.2). Of a column in
+ *                a class: positive where its confidences favour the interpretation with top bit 0,
+ *                negative where that with top bit 1, 0 where neither; its size is what the favoured
+ *                one brings, at most 8,589,934,588 (8.3)
  *
  * A yardstick: a clean signal, all 24 confidences right and of one size s, has the correlation 24 s
  * and the reserve 8 s, and no reading with sizes up to s has a larger reserve (7.8). To turn one of

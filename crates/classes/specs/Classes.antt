@@ -1,5 +1,5 @@
--- Rules 8.1 to 8.5: a class's parity, its characters, what a reading's columns say for them, and the figure that this comes to. Columns are
--- counted from 0 here, and lists of six have the last column first, as they grow from the first column on.
+-- Rules 8.1 to 8.5: a class's parity, its characters, what a reading's columns say for them, and the figure that this comes to. Column i is
+-- counted from 0, column j from 1 as in the rules. Lists of six have the last column first, as they grow from the first column on.
 use mathlib.Core.Bool.{Bool}
 use mathlib.Core.List.{List, [], _∷_}
 use Prim.Native.Nat.{ℕ, _-_, _*_, _/_, _%_}
@@ -32,6 +32,10 @@ sixCharacters a b c = sixth a b c ∷ fifth a b c ∷ fourth a b c ∷ c ∷ b �
 unfoldable pub charactersOf : ℕ → List ℕ
 charactersOf k = sixCharacters (k / 16 % 4) (k / 4 % 4) (k % 4)
 
+-- Rules 8.1 and 1.3: the character of class k in column j, 1 to 6
+abbrev pub characterOf : ℕ → ℕ → ℕ
+characterOf k j = getD (charactersOf k) (6 - j) 0
+
 -- Rule 8.3: the interpretation with parity p, character x and top bit t, correlated with column i of a reading
 abbrev pub columnCorrelation : List ℤ → ℕ → ℕ → ℕ → ℕ → ℤ
 columnCorrelation xs i p x t = correlation (inPositions 4 (interpretation p x t)) (take 4 (drop (4 * i) xs))
@@ -51,7 +55,7 @@ columnSums xs p (x ∷ cs) = columnSum xs (length cs) p x ∷ columnSums xs p cs
 
 -- Rules 8.3 and 1.3: the figure of column j, 1 to 6, in class k: the sum for the class's parity and for its character there
 unfoldable pub columnFigure : List ℤ → ℕ → ℕ → ℤ
-columnFigure xs k j = columnSum xs (j - 1) (parityOf k) (getD (charactersOf k) (6 - j) 0)
+columnFigure xs k j = columnSum xs (j - 1) (parityOf k) (characterOf k j)
 
 -- Rule 8.3: the six sums of class k
 abbrev pub classSums : List ℤ → ℕ → List ℤ

@@ -7,7 +7,7 @@ use lib.IntN.{ℤ, pos}
 use lib.ListN.{length, getD}
 use borrow.Author.Tests.{lt-ltb, le-ltb}
 use Rattle.code.specs.Characters.{fourth, fifth, sixth}
-use Rattle.classes.specs.Classes.{parityOf, charactersOf, columnSum, columnFigure, classSums}
+use Rattle.classes.specs.Classes.{parityOf, charactersOf, characterOf, columnSum, columnFigure, classSums}
 use Rattle.classes.proofs.Characters.{fourth-small, fifth-small, sixth-small}
 use Rattle.columns.specs.Columns.{SumAt, Sums, picks, front, columnAt}
 
@@ -59,5 +59,5 @@ module _ (xs : List ℤ) (k i : ℕ) where
       let parity : j % 8 / 4 ≡ parityOf k = omega arith in
       let character : j % 8 % 4 ≡ getD x i 0 = omega arith in
       let before : i + 1 - 1 ≡ i = omega arith in
-      let there : getD (charactersOf k) (6 - (i + 1)) 0 ≡ getD x i 0 = rw (← e) (front-at 6 x i (6 - (i + 1)) (omega arith)) in
+      let there : characterOf k (i + 1) ≡ getD x i 0 = rw (← e) (front-at 6 x i (6 - (i + 1)) (omega arith)) in
       simp (lt-ltb i 6 h, before, there) (rw (column, parity, character) at (S .value))

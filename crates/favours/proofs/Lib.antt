@@ -1,3 +1,3 @@
 pub mod Rules
 pub mod Decided
-pub mod Telling
+pub mod Opposites

@@ -3,7 +3,7 @@ use mathlib.Core.Path.{_≡_, refl}
 use Prim.Native.Nat.{zero, suc}
 use lib.IntN.{ℤ, pos, negsuc, natAbs, negℤ}
 use lib.Signed.{_<ℤ_}
-use Rattle.signed.specs.Opposites.{larger, Tells}
+use Rattle.signed.specs.Opposites.{larger, Opposites}
 use Rattle.signed.proofs.Parts.{ints, hi-neg, lo-neg}
 
 size-larger : (f : ℤ) → larger f (negℤ f) ≡ pos (natAbs f)
@@ -11,8 +11,8 @@ size-larger (pos zero) = refl
 size-larger (pos (suc n)) = refl
 size-larger (negsuc n) = refl
 
-pub tells : {f first second : ℤ} → first ≡ f → second ≡ negℤ f → Tells f first second
-tells {f} a b = record {
+pub opposites : {f first second : ℤ} → first ≡ f → second ≡ negℤ f → Opposites f first second
+opposites {f} a b = record {
   itself = a;
   negated = b;
   size = rw (a, b) (size-larger f);

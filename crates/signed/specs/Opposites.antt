@@ -8,7 +8,7 @@ abbrev pub larger : ℤ → ℤ → ℤ
 larger x y = cond (ltZ x y) y x
 
 -- Rule 8.3: f is the first of two numbers and the second is its opposite; its size is the larger of the two, and its sign says which that is
-pub record Tells (f first second : ℤ) : Type 0 where
+pub record Opposites (f first second : ℤ) : Type 0 where
   pub itself : first ≡ f
   pub negated : second ≡ negℤ f
   pub size : larger first second ≡ pos (natAbs f)

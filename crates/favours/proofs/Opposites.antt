@@ -3,22 +3,19 @@ use mathlib.Core.Path.{_≡_}
 use mathlib.Core.List.{List}
 use Prim.Native.Nat.{ℕ, _-_}
 use lib.IntN.{ℤ}
-use lib.ListN.{getD}
 use Rattle.signed.specs.Within.{Within}
-use Rattle.signed.specs.Opposites.{Tells}
+use Rattle.signed.specs.Opposites.{Opposites}
 use Rattle.contest.specs.Readings.{Reading}
 use Rattle.code.specs.Code.{positions}
 use Rattle.golay.specs.Answers.{accepted}
-use Rattle.classes.specs.Classes.{parityOf, charactersOf, columnCorrelation, columnFigure}
-use Rattle.classes.proofs.Favours.{figure-tells, figure-size}
+use Rattle.classes.specs.Classes.{parityOf, characterOf, columnCorrelation}
+use Rattle.classes.proofs.Favours.{figure-opposites, figure-size}
 use Rattle.favours.specs.Calls.{columnFigureRule}
 use Rattle.favours.proofs.Rules.{answered-figure}
 
 module _ (xs : List ℤ) (k j : ℕ) {f : ℤ} (answer : accepted f ≡ columnFigureRule xs k j) where
-  pub answer-tells :
-      let x = getD (charactersOf k) (6 - j) 0 in
-      Tells f (columnCorrelation xs (j - 1) (parityOf k) x 0) (columnCorrelation xs (j - 1) (parityOf k) x 1)
-  answer-tells = rw (answered-figure xs k j answer) (figure-tells xs k j)
+  pub answer-opposites : Opposites f (columnCorrelation xs (j - 1) (parityOf k) (characterOf k j) 0) (columnCorrelation xs (j - 1) (parityOf k) (characterOf k j) 1)
+  answer-opposites = rw (answered-figure xs k j answer) (figure-opposites xs k j)
 
   pub answer-size : Reading 2147483647 positions xs → Within 8589934588 f
   answer-size X = rw (answered-figure xs k j answer) (figure-size X k j)
