@@ -1,13 +1,13 @@
 -- The sums of a class in the array of all: they are those that the reading's columns say for its characters.
 use mathlib.Core.Path.{_≡_, refl, ap}
-use mathlib.Core.List.{List, [], _∷_}
+use mathlib.Core.List.{List}
 use Prim.Native.Nat.{ℕ, zero, suc, _+_, _-_, _*_, _/_, _%_, _≤_, _<_}
 use native.Mathlib.Omega.{arith}
 use lib.IntN.{ℤ, pos}
 use lib.ListN.{length, getD}
 use borrow.Author.Tests.{lt-ltb, le-ltb}
 use Rattle.code.specs.Characters.{fourth, fifth, sixth}
-use Rattle.classes.specs.Classes.{parityOf, charactersOf, characterOf, columnSum, columnFigure, classSums}
+use Rattle.classes.specs.Classes.{parityOf, charactersOf, characterOf, columnFigure, classSums}
 use Rattle.classes.proofs.Characters.{fourth-small, fifth-small, sixth-small}
 use Rattle.columns.specs.Columns.{SumAt, Sums, picks, front, columnAt}
 

@@ -1,5 +1,5 @@
 -- The rule of the column figure, taken apart: what it answers where its tests are known, and what an answer tells of them.
-use mathlib.Core.Path.{_≡_, refl}
+use mathlib.Core.Path.{_≡_}
 use mathlib.Core.Bool.{Bool, true, false}
 use mathlib.Core.List.{List}
 use Prim.Native.Nat.{ℕ, _≤_, _<_}
@@ -50,15 +50,12 @@ passed : {A : Type 0} {x : A} (next : Answer A) (r : Refusal) (test : Bool) → 
 passed next r true e = let z : _≡_ {A = ℕ} 0 1 = cc in absurd (omega arith)
 passed next r false e = e
 
+value-of : {A : Type 0} {x y : A} → accepted x ≡ accepted y → x ≡ y
+value-of e = cc
+
 pub answered-figure : (xs : List ℤ) (k j : ℕ) {f : ℤ} → accepted f ≡ columnFigureRule xs k j → f ≡ columnFigure xs k j
 unfolding columnFigureRule
-answered-figure xs k j {f} e =
-    let figure = accepted (columnFigure xs k j) in
-    let with-column = refuse NoColumn (noColumn j) figure in
-    let with-class = refuse ClassAbove (classAbove k) with-column in
-    let with-range = refuse MostNegative (mostNegative xs) with-class in
-    let g : accepted f ≡ figure =
-    passed figure NoColumn (noColumn j)
-    (passed with-column ClassAbove (classAbove k)
-    (passed with-class MostNegative (mostNegative xs) (passed with-range WrongLength (wrongLength positions xs) e))) in
-    cc
+answered-figure xs k j e =
+    value-of
+    (passed _ NoColumn (noColumn j)
+    (passed _ ClassAbove (classAbove k) (passed _ MostNegative (mostNegative xs) (passed _ WrongLength (wrongLength positions xs) e))))

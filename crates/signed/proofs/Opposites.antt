@@ -2,7 +2,6 @@
 use mathlib.Core.Path.{_≡_, refl}
 use Prim.Native.Nat.{zero, suc}
 use lib.IntN.{ℤ, pos, negsuc, natAbs, negℤ}
-use lib.Signed.{_<ℤ_}
 use Rattle.signed.specs.Opposites.{larger, Opposites}
 use Rattle.signed.proofs.Parts.{ints, hi-neg, lo-neg}
 
