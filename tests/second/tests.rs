@@ -288,7 +288,7 @@ fn class_figures_agree_with_the_soft_answer() {
     }
 }
 
-/// By hand, for the reading 1, 2, .. 24: class, column, what its two interpretations come to.
+/// Rule 16.8, by hand: class, column, what its two interpretations come to.
 #[test]
 fn worked_column_figures() {
     let reading: Vec<i32> = (1..=24).collect();

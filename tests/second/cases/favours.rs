@@ -14,6 +14,7 @@ const READINGS_OF_A_KIND: usize = 6;
 /// size among them) and readings of every kind.
 pub fn seeded(code: &Code, chance: &mut Chance) -> Vec<Case> {
     let mut readings = worked_readings();
+    readings.push(counting());
     for kind in KINDS.iter().cycle().take(READINGS_OF_A_KIND * KINDS.len()) {
         readings.push(kind(chance, code));
     }
@@ -24,8 +25,8 @@ pub fn seeded(code: &Code, chance: &mut Chance) -> Vec<Case> {
     cases
 }
 
-/// Every class and column once, the kinds in turn; and the first class and the last for the worked
-/// readings.
+/// Every class and column once, the kinds in turn; the first class and the last for the worked
+/// readings; and each parity and character for the reading of the worked figures.
 pub fn fixed(code: &Code, chance: &mut Chance) -> Vec<Case> {
     let mut kinds = KINDS.iter().cycle();
     let mut cases = everywhere(|| kinds.next().expect("a kind")(chance, code));
@@ -34,9 +35,17 @@ pub fn fixed(code: &Code, chance: &mut Chance) -> Vec<Case> {
             cases.extend(columns(class, || reading.clone()));
         }
     }
+    for class in (0..8).map(|i| 64 * (i / 4) + 21 * (i % 4)) {
+        cases.extend(columns(class, counting));
+    }
     cases.extend(refused(code, chance));
     cases.extend(refusals::cases(refusals::favours()));
     cases
+}
+
+/// The reading of the worked figures (16.8). In class 64 p + 21 x columns 1 to 4 have character x.
+fn counting() -> Vec<i32> {
+    (1..=POSITIONS as i32).collect()
 }
 
 fn columns(class: u32, mut reading: impl FnMut() -> Vec<i32>) -> Vec<Case> {
