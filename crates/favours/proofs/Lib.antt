@@ -1,3 +1,4 @@
 pub mod Rules
 pub mod Decided
 pub mod Opposites
+pub mod Cases
