@@ -85,11 +85,20 @@ fn column_with(wanted_parity: u32, character: u32, top_bit: u32) -> u32 {
         .expect("a column for every parity, character and top bit")
 }
 
-/// The two columns that a class's codewords have in a column, 1 to 6: both interpretations (1.10) of
-/// its parity and of its character there (8.1), the one with top bit 0 first.
+/// The table of rule 1.10: for each character its two even columns, then its two odd ones; of two,
+/// the one with top bit 0 first.
+pub const INTERPRETATIONS: [[[u32; 2]; 2]; 4] = [
+    [[0b0000, 0b1111], [0b0111, 0b1000]],
+    [[0b0011, 0b1100], [0b0100, 0b1011]],
+    [[0b0101, 0b1010], [0b0010, 0b1101]],
+    [[0b0110, 0b1001], [0b0001, 0b1110]],
+];
+
+/// The two interpretations that a class has in a column, 1 to 6: of its parity and of its character
+/// there (8.1).
 pub fn interpretations(class: u32, column: u32) -> [u32; 2] {
     let characters = hexacodeword(class >> 4 & 3, class >> 2 & 3, class & 3);
-    [0, 1].map(|top_bit| column_with(class >> 6 & 1, characters[column as usize - 1], top_bit))
+    INTERPRETATIONS[characters[column as usize - 1] as usize][(class >> 6 & 1) as usize]
 }
 
 /// The top row: the message holds five bits of it (3.2), and the sixth makes its parity p (3.3).

@@ -8,7 +8,7 @@ use crate::cases::{patterns, refusals, Kind};
 use crate::chance::Chance;
 use crate::code::{
     bit_at, columns, distance, hexacodeword, interpretations, parity, projection, syndrome_of, top,
-    top_row_parity, Code, WORDS,
+    top_row_parity, Code, INTERPRETATIONS, WORDS,
 };
 use crate::compare::compare;
 use crate::decoders::for_interpretations;
@@ -183,13 +183,7 @@ fn earlier_refusals_come_first() {
 
 #[test]
 fn worked_columns() {
-    let table = [
-        ([0b0000, 0b1111], [0b1000, 0b0111]),
-        ([0b0011, 0b1100], [0b0100, 0b1011]),
-        ([0b0101, 0b1010], [0b0010, 0b1101]),
-        ([0b0110, 0b1001], [0b0001, 0b1110]),
-    ];
-    for (character, (even, odd)) in table.iter().enumerate() {
+    for (character, [even, odd]) in INTERPRETATIONS.iter().enumerate() {
         for &column in even.iter().chain(odd) {
             assert_eq!(projection(column), character as u32);
         }
@@ -197,7 +191,8 @@ fn worked_columns() {
             even.iter().all(|&column| parity(column) == 0)
                 && odd.iter().all(|&column| parity(column) == 1)
         );
-        assert!(top(even[0]) != top(even[1]) && top(odd[0]) != top(odd[1]));
+        assert_eq!(even.map(top), [0, 1]);
+        assert_eq!(odd.map(top), [0, 1]);
     }
 }
 

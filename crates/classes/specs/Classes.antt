@@ -33,8 +33,8 @@ unfoldable pub charactersOf : ℕ → List ℕ
 charactersOf k = sixCharacters (k / 16 % 4) (k / 4 % 4) (k % 4)
 
 -- Rules 8.1 and 1.3: the character of class k in column j, 1 to 6
-abbrev pub characterOf : ℕ → ℕ → ℕ
-characterOf k j = getD (charactersOf k) (6 - j) 0
+abbrev pub characterIn : ℕ → ℕ → ℕ
+characterIn k j = getD (charactersOf k) (6 - j) 0
 
 -- Rule 8.3: the interpretation with parity p, character x and top bit t, correlated with column i of a reading
 abbrev pub columnCorrelation : List ℤ → ℕ → ℕ → ℕ → ℕ → ℤ
@@ -55,7 +55,7 @@ columnSums xs p (x ∷ cs) = columnSum xs (length cs) p x ∷ columnSums xs p cs
 
 -- Rules 8.3 and 1.3: the figure of column j, 1 to 6, in class k: the sum for the class's parity and for its character there
 unfoldable pub columnFigure : List ℤ → ℕ → ℕ → ℤ
-columnFigure xs k j = columnSum xs (j - 1) (parityOf k) (characterOf k j)
+columnFigure xs k j = columnSum xs (j - 1) (parityOf k) (characterIn k j)
 
 -- Rule 8.3: the six sums of class k
 abbrev pub classSums : List ℤ → ℕ → List ℤ

@@ -7,7 +7,7 @@ use lib.IntN.{ℤ, pos}
 use lib.ListN.{length, getD}
 use borrow.Author.Tests.{lt-ltb, le-ltb}
 use Rattle.code.specs.Characters.{fourth, fifth, sixth}
-use Rattle.classes.specs.Classes.{parityOf, charactersOf, characterOf, columnFigure, classSums}
+use Rattle.classes.specs.Classes.{parityOf, charactersOf, characterIn, columnFigure, classSums}
 use Rattle.classes.proofs.Characters.{fourth-small, fifth-small, sixth-small}
 use Rattle.columns.specs.Columns.{SumAt, Sums, picks, front, columnAt}
 
@@ -43,21 +43,21 @@ module _ (xs s : List ℤ) (I : Sums xs s) (k : ℕ) where
 -- ---- one column of a class
 
 module _ (xs : List ℤ) (k i : ℕ) where
-  pub figure-past : 6 ≤ i → columnAt xs k i ≡ pos 0
-  figure-past h = simp (le-ltb i 6 h)
+  pub columnAt-past : 6 ≤ i → columnAt xs k i ≡ pos 0
+  columnAt-past h = simp (le-ltb i 6 h)
 
-  pub figure-within : i < 6 → columnAt xs k i ≡ columnFigure xs k (i + 1)
-  figure-within h = simp (lt-ltb i 6 h)
+  pub columnAt-within : i < 6 → columnAt xs k i ≡ columnFigure xs k (i + 1)
+  columnAt-within h = simp (lt-ltb i 6 h)
 
   -- of the eight sums of column i, the one in the class's place
-  pub figure-here : i < 6 → (x : List ℕ) → front 6 x ≡ charactersOf k → getD x i 0 < 4
+  pub columnAt-sum : i < 6 → (x : List ℕ) → front 6 x ≡ charactersOf k → getD x i 0 < 4
       → {z : ℤ} → SumAt xs (8 * i + (k / 64 % 2 * 4 + getD x i 0)) z → z ≡ columnAt xs k i
   unfolding columnFigure
-  figure-here h x e s {z} S =
+  columnAt-sum h x e s {z} S =
       let j = 8 * i + (k / 64 % 2 * 4 + getD x i 0) in
       let column : j / 8 ≡ i = omega arith in
       let parity : j % 8 / 4 ≡ parityOf k = omega arith in
       let character : j % 8 % 4 ≡ getD x i 0 = omega arith in
       let before : i + 1 - 1 ≡ i = omega arith in
-      let there : characterOf k (i + 1) ≡ getD x i 0 = rw (← e) (front-at 6 x i (6 - (i + 1)) (omega arith)) in
+      let there : characterIn k (i + 1) ≡ getD x i 0 = rw (← e) (front-at 6 x i (6 - (i + 1)) (omega arith)) in
       simp (lt-ltb i 6 h, before, there) (rw (column, parity, character) at (S .value))

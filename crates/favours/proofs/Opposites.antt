@@ -8,13 +8,13 @@ use Rattle.signed.specs.Opposites.{Opposites}
 use Rattle.contest.specs.Readings.{Reading}
 use Rattle.code.specs.Code.{positions}
 use Rattle.golay.specs.Answers.{accepted}
-use Rattle.classes.specs.Classes.{parityOf, characterOf, columnCorrelation}
+use Rattle.classes.specs.Classes.{parityOf, characterIn, columnCorrelation}
 use Rattle.classes.proofs.Favours.{figure-opposites, figure-size}
 use Rattle.favours.specs.Calls.{columnFigureRule}
 use Rattle.favours.proofs.Rules.{answered-figure}
 
 module _ (xs : List ℤ) (k j : ℕ) {f : ℤ} (answer : accepted f ≡ columnFigureRule xs k j) where
-  pub answer-opposites : Opposites f (columnCorrelation xs (j - 1) (parityOf k) (characterOf k j) 0) (columnCorrelation xs (j - 1) (parityOf k) (characterOf k j) 1)
+  pub answer-opposites : Opposites f (columnCorrelation xs (j - 1) (parityOf k) (characterIn k j) 0) (columnCorrelation xs (j - 1) (parityOf k) (characterIn k j) 1)
   answer-opposites = rw (answered-figure xs k j answer) (figure-opposites xs k j)
 
   pub answer-size : Reading 2147483647 positions xs → Within 8589934588 f

@@ -17,19 +17,19 @@ use Rattle.classes.specs.Classes.{classes, classAbove, columnFigure}
 use Rattle.favours.specs.Calls.{noColumn, columnFigureRule}
 
 module _ (xs : List ℤ) (k j : ℕ) where
-  pub figure-length : (length xs ≡ 24 → ⊥) → columnFigureRule xs k j ≡ refused 1
+  pub column-length : (length xs ≡ 24 → ⊥) → columnFigureRule xs k j ≡ refused 1
   unfolding columnFigureRule
-  figure-length l = simp (ne-eqb (length xs) 24 l)
+  column-length l = simp (ne-eqb (length xs) 24 l)
 
   module _ (l : length xs ≡ 24) where
-    pub figure-negative : mostNegative xs ≡ true → columnFigureRule xs k j ≡ refused 2
+    pub column-negative : mostNegative xs ≡ true → columnFigureRule xs k j ≡ refused 2
     unfolding columnFigureRule
-    figure-negative e = simp (eq-eqb (length xs) 24 l, e)
+    column-negative e = simp (eq-eqb (length xs) 24 l, e)
 
     module _ (e : mostNegative xs ≡ false) where
-      pub figure-above : classes ≤ k → columnFigureRule xs k j ≡ refused 11
+      pub column-class : classes ≤ k → columnFigureRule xs k j ≡ refused 11
       unfolding columnFigureRule
-      figure-above h = simp (eq-eqb (length xs) 24 l, e, le-leb classes k h)
+      column-class h = simp (eq-eqb (length xs) 24 l, e, le-leb classes k h)
 
       module _ (h : k < classes) where
         pub column-before : j < 1 → columnFigureRule xs k j ≡ refused 18

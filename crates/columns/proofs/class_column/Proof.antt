@@ -6,7 +6,7 @@ use borrow.Author.Needs.{needs}
 use lib.Dec.{lit<}
 use lib.ListN.{getD}
 use Rattle.signed.proofs.Locals.{reads}
-use Rattle.columns.proofs.Picking.{figure-past, figure-here}
+use Rattle.columns.proofs.Picking.{columnAt-past, columnAt-sum}
 use Rattle.columns.proofs.class_column.Statement.{statement}
 use Rattle.columns.proofs.class_column.Tie as tie
 
@@ -15,7 +15,7 @@ small : (c : tie.After-pair-at2) → getD (c .before .before .characters .result
 small c = c .before .before .characters .ensures .1 (c .before .before .before .before .args .i)
 
 returns : tie.Need-returns
-returns c = sym (figure-past (c .before .args .reading .now) (c .before .args .class) (c .before .args .i) (c .if1 .taken))
+returns c = sym (columnAt-past (c .before .args .reading .now) (c .before .args .class) (c .before .args .i) (c .if1 .taken))
 
 characters-requires : tie.Need-characters-requires
 characters-requires c κs = search needs
@@ -56,7 +56,7 @@ returns-2 c =
     let x = c .before .before .before .characters in
     let S = c .sum-of .ensures (start .args .reading .now) (start .args .i) (c .before .before .pair-at .ensures .0) (c .before .pair-at2 .ensures .0) in
     reads (S .bound) (lit< tt)
-    ∙ figure-here (start .args .reading .now) (start .args .class) (start .args .i) (c .before .before .before .before .if1 .left) (x .result) (x .ensures .0) (small (c .before)) S
+    ∙ columnAt-sum (start .args .reading .now) (start .args .class) (start .args .i) (c .before .before .before .before .if1 .left) (x .result) (x .ensures .0) (small (c .before)) S
 
 pub class-column-spec : {M : Type 1} → statement M
 class-column-spec =

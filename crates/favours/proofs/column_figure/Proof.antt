@@ -11,8 +11,8 @@ use mir.Facts.{toZ-ofZ}
 use Rattle.golay.specs.Answers.{accepted}
 use Rattle.reading.specs.Checks.{mostNegative}
 use Rattle.classes.specs.Classes.{columnFigure}
-use Rattle.columns.proofs.Picking.{figure-within}
-use Rattle.favours.proofs.Rules.{figure-length, figure-negative, figure-above, column-before, column-after, column-within}
+use Rattle.columns.proofs.Picking.{columnAt-within}
+use Rattle.favours.proofs.Rules.{column-length, column-negative, column-class, column-before, column-after, column-within}
 use Rattle.favours.proofs.column_figure.Statement.{statement}
 use Rattle.favours.proofs.column_figure.Tie as tie
 
@@ -26,7 +26,7 @@ figure-fits : (c : tie.After-class-column) → SFits w64 (c .class-column .resul
 figure-fits c = search needs
 
 returns : tie.Need-returns
-returns c = let a = c .before .args in sym (figure-length (a .reading .now) (a .class) (a .column) (c .if1 .taken))
+returns c = let a = c .before .args in sym (column-length (a .reading .now) (a .class) (a .column) (c .if1 .taken))
 
 most-negative-requires : tie.Need-most-negative-requires
 most-negative-requires c κs = search needs
@@ -34,12 +34,12 @@ most-negative-requires c κs = search needs
 returns-2 : tie.Need-returns-2
 returns-2 c =
     let a = c .before .before .before .args in
-    sym (figure-negative (a .reading .now) (a .class) (a .column) (c .before .before .if1 .left) (sym (c .before .most-negative .ensures .is) ∙ c .if2 .taken))
+    sym (column-negative (a .reading .now) (a .class) (a .column) (c .before .before .if1 .left) (sym (c .before .most-negative .ensures .is) ∙ c .if2 .taken))
 
 returns-3 : tie.Need-returns-3
 returns-3 c =
     let a = c .before .before .before .before .args in
-    sym (figure-above (a .reading .now) (a .class) (a .column) (long (c .before)) (usable (c .before)) (omega (arith, c .if3 .taken)))
+    sym (column-class (a .reading .now) (a .class) (a .column) (long (c .before)) (usable (c .before)) (omega (arith, c .if3 .taken)))
 
 returns-4 : tie.Need-returns-4
 returns-4 c =
@@ -64,7 +64,7 @@ returns-6 c =
     let a = c .before .before .before .before .before .before .before .args in
     let tested = c .before .before .before .before in
     let e : a .column - 1 + 1 ≡ a .column = omega arith in
-    ap accepted (toZ-ofZ (figure-fits c) ∙ c .class-column .ensures ∙ figure-within (a .reading .now) (a .class) (a .column - 1) (omega arith) ∙ ap (columnFigure (a .reading .now) (a .class)) e)
+    ap accepted (toZ-ofZ (figure-fits c) ∙ c .class-column .ensures ∙ columnAt-within (a .reading .now) (a .class) (a .column - 1) (omega arith) ∙ ap (columnFigure (a .reading .now) (a .class)) e)
     ∙ sym (column-within (a .reading .now) (a .class) (a .column) (long tested) (usable tested) (c .before .before .before .if3 .left) (omega (arith, c .before .before .if4 .left)) (omega (arith, c .before .if5 .left)))
 
 pub column-figure-spec : {M : Type 1} → statement M
