@@ -20,12 +20,14 @@ enum { READINGS = 64, SLOTS = 6, WORD_BYTES = 3, CLASSES = 128, COLUMNS = 6, LAS
 
 static int32_t readings[READINGS][POSITIONS];
 static uint32_t numbers[READINGS];
+static uint32_t columns[READINGS];
 static uint32_t codewords[READINGS];
 
 static void prepare(enum kind kind)
 {
     for (int r = 0; r < READINGS; r++) {
         numbers[r] = chance() % 16777216;
+        columns[r] = 1 + numbers[r] / CLASSES % COLUMNS;
         garthumor_encode(numbers[r] % 4096, &codewords[r]);
         fill_reading(readings[r], kind, codewords[r]);
     }
@@ -44,7 +46,7 @@ static uint8_t syndrome(int r) { return garthumor_syndrome(numbers[r], &one); }
 static uint8_t correct(int r) { return garthumor_correct(numbers[r], &one, &other); }
 static uint8_t candidates(int r) { return garthumor_candidates(numbers[r], slots, SLOTS); }
 static uint8_t class_figure(int r) { return garthumor_class_figure(readings[r], POSITIONS, numbers[r] % CLASSES, &wide); }
-static uint8_t column_figure(int r) { return garthumor_column_figure(readings[r], POSITIONS, numbers[r] % CLASSES, 1 + numbers[r] / CLASSES % COLUMNS, &wide); }
+static uint8_t column_figure(int r) { return garthumor_column_figure(readings[r], POSITIONS, numbers[r] % CLASSES, columns[r], &wide); }
 static uint8_t soft(int r) { return garthumor_soft(readings[r], POSITIONS, &one, &other, &wide, &more); }
 static uint8_t quick(int r) { return garthumor_quick(readings[r], POSITIONS, &one); }
 static uint8_t write_bytes(int r) { return garthumor_write_bytes(codewords[r], bytes, WORD_BYTES); }
