@@ -46,7 +46,7 @@ topZero p x = inPositions 4 (interpretation p x 0)
 
 -- Rule 8.3: its correlation with column i of a reading; that of the one with top bit 1 has the opposite sign
 unfoldable pub columnSum : List ℤ → ℕ → ℕ → ℕ → ℤ
-columnSum xs i p x = correlation (topZero p x) (take 4 (drop (4 * i) xs))
+columnSum xs i p x = columnCorrelation xs i p x 0
 
 -- Rule 8.3: the sums of as many columns as there are characters
 abbrev pub columnSums : List ℤ → ℕ → List ℕ → List ℤ
