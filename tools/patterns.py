@@ -1,15 +1,16 @@
 #!/usr/bin/env python3
 """The table of 4,096 error patterns (rules 5.2 and 15.2): of the words with one syndrome the one with the least number of ones, and where
-several have that number, the least of them as a number.
+several have that number, the least of them as a number; and the same patterns as the program stores them (rules 5.9 and 15.8).
 
-    tools/patterns.py rt           prints crates/lookup/src/entries.rt
-    tools/patterns.py antt         prints crates/table/proofs/Table.antt
-    tools/patterns.py rows_0       prints crates/lookup/proofs/entries/rows_0/Proof.antt, and so for rows_1, rows_2 and rows_3
+    tools/patterns.py patterns     prints crates/table/proofs/Table.antt
+    tools/patterns.py stored       prints crates/table/proofs/Packed.antt
+    tools/patterns.py source       prints crates/lookup/src/entries.rt
+    tools/patterns.py row_of       prints crates/lookup/proofs/entries/row_of/Proof.antt
     tools/patterns.py --write      writes all of them
     tools/patterns.py --check      compares all of them with what it would print; exit 1 where one differs
 
-All are printed in the layout of `rt fmt`. Nothing trusts this script: crates/table proves the rule of the list that it prints, and
-crates/lookup that the source's rows are that list's.
+All are printed in the layout of `rt fmt`. Nothing trusts this script: crates/table proves the rule of the lists that it prints, and
+crates/lookup that the source's rows are those of the second.
 """
 
 import itertools
@@ -20,10 +21,18 @@ POSITIONS = 24
 SYNDROMES = 4_096
 MOST_ONES = 4
 
-# The source has its table in rows, and a function for each quarter of them.
+# A stored pattern is four fields of five bits, and 31 is no position.
+FIELD = 5
+NONE = 31
+
+# Two numbers hold four of them: their lowest 16 bits each in one, their highest four in the other.
+LOW = 16
+HIGH = 4
+TOGETHER = 4
+
+# The source has these numbers in rows, which one function picks from.
 ROW = 32
-ROWS = 32
-QUARTERS = SYNDROMES // ROW // ROWS
+ROWS = SYNDROMES // TOGETHER // ROW
 
 # a times b for the characters 0, 1, w, v, numbered 0 to 3
 PRODUCTS = ((0, 0, 0, 0), (0, 1, 2, 3), (0, 2, 3, 1), (0, 3, 1, 2))
@@ -74,100 +83,120 @@ def patterns():
     return [table[s] for s in range(SYNDROMES)]
 
 
-def source_row(table, n):
+def stored(pattern):
+    """A pattern as a number of 20 bits: the positions of its ones, ascending, then 31."""
+    positions = [position for position in range(1, POSITIONS + 1) if pattern >> (POSITIONS - position) & 1]
+    entry = 0
+    for field in positions + [NONE] * (MOST_ONES - len(positions)):
+        entry = entry << FIELD | field
+    return entry
+
+
+def packed(table):
+    """The two lists of numbers that hold all entries."""
+    entries = [stored(pattern) for pattern in table]
+    fours = [entries[start:start + TOGETHER] for start in range(0, SYNDROMES, TOGETHER)]
+    lows = [sum((entry % (1 << LOW)) << (LOW * k) for k, entry in enumerate(four)) for four in fours]
+    highs = [sum((entry >> LOW) << (HIGH * k) for k, entry in enumerate(four)) for four in fours]
+    return lows, highs
+
+
+def low_text(low):
+    return f"0x{low:016X}"
+
+
+def high_text(high):
+    return f"0x{high:04X}"
+
+
+def source_row(lows, highs, n):
     """A row of the source's table. Rows are numbered in hexadecimal."""
-    lines = [f"const ROW_{n:02X}: [u32; {ROW}] = ["]
-    lines += [f"    0x{pattern:06X}," for pattern in table[n * ROW:(n + 1) * ROW]]
-    return lines + ["];", ""]
+    part = slice(n * ROW, (n + 1) * ROW)
+    return (
+        [f"const ROW_{n:02X}: Row = Row {{", "    lows: ["]
+        + [f"        {low_text(low)}," for low in lows[part]]
+        + ["    ],", "    highs: ["]
+        + [f"        {high_text(high)}," for high in highs[part]]
+        + ["    ],", "};", ""]
+    )
 
 
-def source_rows(quarter):
-    """The function that picks one of a quarter's rows."""
+def source(table):
+    lows, highs = packed(table)
     lines = [
-        f"// A row of those from syndrome {quarter * ROWS * ROW:,} on.",
-        f"fn rows_{quarter}(row: u32) -> [u32; {ROW}]",
+        f"// The stored error pattern of each syndrome (rule 15.8), in rows of {ROW * TOGETHER}, and the row of a number. Printed by tools/patterns.py.",
+        "ghost use Prim.Native.Nat.{_*_, _<_};",
+        "ghost use Rattle.patterns.specs.Positions.{AreStored};",
+        "",
+        "// Number k of each holds the entries 4 k to 4 k + 3, from the lowest bits up: their lowest 16 bits and their highest four.",
+        "pub(crate) struct Row {",
+        f"    pub(crate) lows: [u64; {ROW}],",
+        f"    pub(crate) highs: [u16; {ROW}],",
+        "}",
+        "",
+    ]
+    for n in range(ROWS):
+        lines += source_row(lows, highs, n)
+    lines += [
+        "pub(crate) fn row_of(row: u32) -> Row",
         f"    requires {{ ⌜ row < {ROWS} ⌝ }}",
-        f"    ensures {{ λ r. ⌜ ArePatterns ({quarter * ROWS * ROW} + row * {ROW}) {ROW} r ⌝ }}",
+        f"    ensures {{ λ r. ⌜ AreStored (row * {ROW * TOGETHER}) {ROW * TOGETHER} (r .lows) (r .highs) ⌝ }}",
         "{",
         "    match row {",
     ]
-    lines += [f"        {row} => ROW_{quarter * ROWS + row:02X}," for row in range(ROWS - 1)]
-    lines += [f"        _ => ROW_{quarter * ROWS + ROWS - 1:02X},", "    }", "}", ""]
-    return lines
-
-
-def rt(table):
-    lines = [
-        "// The error pattern of each syndrome, in rows of 32, and the row that a syndrome's stands in. Printed by tools/patterns.py.",
-        "ghost use Prim.Native.Nat.{_+_, _*_, _/_, _%_, _<_};",
-        "ghost use Rattle.patterns.specs.Patterns.{ArePatterns};",
-        "",
-    ]
-    for n in range(SYNDROMES // ROW):
-        lines += source_row(table, n)
-    for quarter in range(QUARTERS):
-        lines += source_rows(quarter)
-    lines += [
-        f"// The row that the pattern of a syndrome stands in. The remainders tell the compiler that there are {QUARTERS} quarters of {ROWS} rows.",
-        f"pub(crate) fn row(s: u32) -> [u32; {ROW}]",
-        f"    ensures {{ λ r. ⌜ ArePatterns (s / {ROW} % {SYNDROMES // ROW} * {ROW}) {ROW} r ⌝ }}",
-        "{",
-        f"    let row = s / {ROW} % {ROWS};",
-        f"    match s / {ROWS * ROW:_} % {QUARTERS} {{",
-    ]
-    lines += [f"        {quarter} => rows_{quarter}(row)," for quarter in range(QUARTERS - 1)]
-    lines += [f"        _ => rows_{QUARTERS - 1}(row),", "    }", "}"]
+    lines += [f"        {row} => ROW_{row:02X}," for row in range(ROWS - 1)]
+    lines += [f"        _ => ROW_{ROWS - 1:02X},", "    }", "}"]
     return "\n".join(lines) + "\n"
 
 
-def antt(table):
-    rows = [table[start:start + 8] for start in range(0, SYNDROMES, 8)]
-    lines = [
-        "-- The error pattern of each syndrome, from syndrome 0 up. Printed by tools/patterns.py.",
-        "-- Assumes nothing.",
-        "use mathlib.Core.List.{List, [], _∷_}",
-        "use Prim.Native.Nat.{ℕ}",
-        "",
-        "unfoldable pub table : List ℕ",
-        "table =",
-    ]
-    lines += ["    " + " ∷ ".join(f"0x{pattern:06X}" for pattern in row) + " ∷" for row in rows]
-    lines += ["    []"]
+def listed(comment, *lists):
+    """A file of the proofs with lists of numbers, each with its name, its numbers as text and how many stand in a line."""
+    lines = [comment, "-- Assumes nothing.", "use mathlib.Core.List.{List, [], _∷_}", "use Prim.Native.Nat.{ℕ}"]
+    for name, numbers, width in lists:
+        lines += ["", f"unfoldable pub {name} : List ℕ", f"{name} ="]
+        lines += ["    " + " ∷ ".join(numbers[start:start + width]) + " ∷" for start in range(0, len(numbers), width)]
+        lines += ["    []"]
     return "\n".join(lines) + "\n"
 
 
-def rows_proof(quarter):
-    """The proof of a quarter's function: each arm is one line, by one law."""
-    first = quarter * ROWS * ROW
-    name = f"rows_{quarter}"
+def patterns_list(table):
+    comment = "-- The error pattern of each syndrome, from syndrome 0 up. Printed by tools/patterns.py."
+    return listed(comment, ("table", [f"0x{pattern:06X}" for pattern in table], 8))
+
+
+def stored_lists(table):
+    lows, highs = packed(table)
+    comment = "-- The stored error pattern of each syndrome (rule 15.8), four to a number, from syndrome 0 up. Printed by tools/patterns.py."
+    return listed(comment, ("lows", [low_text(low) for low in lows], 4), ("highs", [high_text(high) for high in highs], 8))
+
+
+def row_proof(table):
+    """The proof of the function that picks a row: each arm is one line, by one law."""
     lines = [
-        f"-- `lookup::entries::{name}` meets its contract: each arm's row is that part of the table. Printed by tools/patterns.py.",
+        "-- `lookup::entries::row_of` meets its contract: each arm's row is that part of the stored table. Printed by tools/patterns.py.",
         "-- Assumes nothing.",
-        "use Rattle.table.proofs.Table.{table}",
+        "use Rattle.table.proofs.Packed.{lows, highs}",
         "use Rattle.lookup.proofs.Rows.{picked, left-over}",
-        f"use Rattle.lookup.proofs.entries.{name}.Statement.{{statement}}",
-        f"use Rattle.lookup.proofs.entries.{name}.Tie as tie",
+        "use Rattle.lookup.proofs.entries.row_of.Statement.{statement}",
+        "use Rattle.lookup.proofs.entries.row_of.Tie as tie",
         "",
-        f"pub {name.replace('_', '-')}-spec : {{M : Type 1}} → statement M",
-        "unfolding table",
-        f"{name.replace('_', '-')}-spec =",
+        "pub row-of-spec : {M : Type 1} → statement M",
+        "unfolding lows highs",
+        "row-of-spec =",
         "    tie.close",
         "    (tie.spec",
     ]
-    lines += [f"    (λ c. picked {first} {row} (c .match .keys{row + 1}) tt)" for row in range(ROWS - 1)]
-    lines += [f"    (λ c. picked {first} {ROWS - 1} (left-over {ROWS - 1} (c .match .rest) (c .before .pre)) tt))"]
+    lines += [f"    (λ c. picked {row} (c .match .keys{row + 1}) tt)" for row in range(ROWS - 1)]
+    lines += [f"    (λ c. picked {ROWS - 1} (left-over {ROWS - 1} (c .match .rest) (c .before .pre)) tt))"]
     return "\n".join(lines) + "\n"
 
 
 FILES = {
-    "rt": ("crates/lookup/src/entries.rt", rt),
-    "antt": ("crates/table/proofs/Table.antt", antt),
+    "patterns": ("crates/table/proofs/Table.antt", patterns_list),
+    "stored": ("crates/table/proofs/Packed.antt", stored_lists),
+    "source": ("crates/lookup/src/entries.rt", source),
+    "row_of": ("crates/lookup/proofs/entries/row_of/Proof.antt", row_proof),
 }
-for _quarter in range(QUARTERS):
-    FILES[f"rows_{_quarter}"] = (
-        f"crates/lookup/proofs/entries/rows_{_quarter}/Proof.antt",
-        lambda table, quarter=_quarter: rows_proof(quarter),
-    )
 
 
 def write():

@@ -1,3 +1,4 @@
 pub mod Patterns
 pub mod Nearest
+pub mod Positions
 pub mod Cases
