@@ -3,3 +3,4 @@ pub mod Found
 pub mod Calls
 pub mod Decided
 pub mod Meaning
+pub mod Split

@@ -1,57 +1,67 @@
--- `hard::correct` meets its contract: the pattern of golay's syndrome, and its ones, are what the rule goes by.
+-- `hard::correct` meets its contract: what finding answers is what the rule goes by, and applying its pattern is not refused.
 -- Assumes nothing.
-use native.Mathlib.Omega.{arith}
 use borrow.Author.Needs.{needs}
-use Rattle.hard.proofs.Found.{syndrome-accepted, syndrome-refused, found}
-use Rattle.hard.proofs.Calls.{corrects-above, corrects-four, corrects-nearer}
+use Rattle.hard.proofs.Found.{find-accepted, find-refused}
+use Rattle.hard.proofs.Calls.{corrects-above, corrects-four, corrects-nearer, applied, not-refused}
 use Rattle.hard.proofs.correct.Statement.{statement}
 use Rattle.hard.proofs.correct.Tie as tie
 
-syndrome-requires : tie.Need-syndrome-requires
-syndrome-requires c κs = search needs
+find-requires : tie.Need-find-requires
+find-requires c κs = search needs
 
 enum-known-reason : tie.Need-enum-known-reason
 enum-known-reason c = search needs
 
-enum-known-s : tie.Need-enum-known-s
-enum-known-s c = search needs
-
-pattern-requires : tie.Need-pattern-requires
-pattern-requires c κs = search needs
-
-ones-requires : tie.Need-ones-requires
-ones-requires c κs = search needs
+enum-known-pattern : tie.Need-enum-known-pattern
+enum-known-pattern c = search needs
 
 returns : tie.Need-returns
 returns c =
-    let read = c .before .before in
-    let matched = read .before .before in
+    let matched = c .before .before in
     let called = matched .before .before in
-    let w = syndrome-accepted (called .before .args .word) (called .syndrome .ensures) (matched .s .given .1) in
-    corrects-four (found w (read .pattern .ensures) (c .before .ones .ensures)) (omega arith)
+    corrects-four (find-accepted (called .find .ensures) (matched .pattern .given .1)) (c .if1 .taken)
+
+apply-requires : tie.Need-apply-requires
+apply-requires c κs = search needs
+
+enum-known-reason-2 : tie.Need-enum-known-reason-2
+enum-known-reason-2 c = search needs
+
+enum-known-codeword : tie.Need-enum-known-codeword
+enum-known-codeword c = search needs
 
 returns-2 : tie.Need-returns-2
 returns-2 c =
     let called = c .before .before .before in
-    corrects-above (syndrome-refused (called .before .args .word) (called .syndrome .ensures) (c .before .reason .given .1))
+    corrects-above (find-refused (called .find .ensures) (c .before .reason .given .1))
 
 returns-3 : tie.Need-returns-3
 returns-3 c =
-    let read = c .before .before in
-    let matched = read .before .before in
+    let applied-to = c .before .before .before in
+    let matched = applied-to .before .before .before in
     let called = matched .before .before in
-    let w = syndrome-accepted (called .before .args .word) (called .syndrome .ensures) (matched .s .given .1) in
-    corrects-nearer (found w (read .pattern .ensures) (c .before .ones .ensures)) (omega arith)
+    let f = find-accepted (called .find .ensures) (matched .pattern .given .1) in
+    absurd (not-refused f (applied-to .apply .ensures) (c .before .reason2 .given .1))
+
+returns-4 : tie.Need-returns-4
+returns-4 c =
+    let applied-to = c .before .before .before in
+    let matched = applied-to .before .before .before in
+    let called = matched .before .before in
+    let f = find-accepted (called .find .ensures) (matched .pattern .given .1) in
+    rw (applied f (applied-to .apply .ensures) (c .before .codeword .given .1)) (corrects-nearer f (applied-to .before .if1 .left))
 
 pub correct-spec : {M : Type 1} → statement M
 correct-spec =
     tie.close
     (tie.spec
-    syndrome-requires
+    find-requires
     enum-known-reason
-    enum-known-s
-    pattern-requires
-    ones-requires
+    enum-known-pattern
     returns
+    apply-requires
+    enum-known-reason-2
+    enum-known-codeword
     returns-2
-    returns-3)
+    returns-3
+    returns-4)
