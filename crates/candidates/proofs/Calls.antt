@@ -5,23 +5,24 @@ use mathlib.Core.List.{List}
 use Prim.Native.Nat.{ℕ, _%_}
 use native.Mathlib.Nat.{mod-eq-of-lt}
 use lib.ListN.{length}
-use Rattle.binary.specs.Words.{ones}
-use Rattle.code.specs.Code.{syndromes}
+use Rattle.code.specs.Code.{words, syndromeOf}
 use Rattle.golay.specs.Answers.{accepted, refused}
 use Rattle.patterns.specs.Patterns.{IsPattern}
-use Rattle.hard.proofs.Found.{Within, Above, within-lt, Found, found, entry, entry-rule}
+use Rattle.hard.proofs.Found.{Above, Found, entry, entry-rule}
 use Rattle.candidates.specs.Candidates.{Candidates, AtFour}
 use Rattle.candidates.specs.Calls.{WritesCandidates}
 use Rattle.candidates.proofs.Rules.{candidates-length, candidates-above, candidates-other, candidates-four}
 
-pub at-four : {word s p n : ℕ} → Within word s → IsPattern (s % syndromes) p → n ≡ ones 32 p → n ≡ 4 → AtFour word s
-at-four {p = p} w r e four = record {
-  within = w .low;
-  syndrome = w .syndrome;
-  pattern = p;
-  rule = subst (λ (x : ℕ). IsPattern x p) (mod-eq-of-lt (within-lt w)) r;
-  four = sym (found w r e .count) ∙ four;
-}
+pub at-four : {word s p n : ℕ} → Found word p n → s ≡ syndromeOf (word % words) → n ≡ 4 → AtFour word s
+at-four {word} {p = p} f e four =
+    let same = e ∙ ap syndromeOf (mod-eq-of-lt (f .low)) in
+    record {
+      within = f .low;
+      syndrome = same;
+      pattern = p;
+      rule = subst (λ (x : ℕ). IsPattern x p) (sym same) (f .rule);
+      four = sym (f .count) ∙ four;
+    }
 
 pub writes-length : (word : ℕ) (slots : List ℕ) → (length slots ≡ 6 → ⊥) → WritesCandidates word slots (refused 1) slots
 writes-length word slots l = record {

@@ -8,11 +8,11 @@ use native.Mathlib.Numerals.{add-one}
 use native.Mathlib.Nat.{one-mul, mod-eq-of-lt, add-zero, zero-add, le-refl}
 use native.Mathlib.Omega.{arith}
 use lib.Dec.{T, not-T, ltb→lt, lt→ltb, eqb→eq}
-use lib.Pow.{pow-lt}
+use lib.Pow.{pow-lt, pow-mono}
 use lib.Bits.{bitXor, xor-lt}
 use lib.ListN.{getD, length, take, drop, set, length-set, take-append-drop, drop-of-length-le}
 use lib.Seq.{take-suc-set, take-set-le, drop-set-lt, drop-cons, getD-set-same}
-use Rattle.code.specs.Code.{syndromes}
+use Rattle.code.specs.Code.{words, syndromes}
 use Rattle.code.proofs.Syndromes.{syndromeRows}
 use Rattle.patterns.specs.Patterns.{IsPattern}
 use Rattle.patterns.proofs.Patterns.{pattern-unique}
@@ -135,8 +135,8 @@ module _ {word s : ℕ} {slots : List ℕ} {first end i f : ℕ} (a : AtFour wor
   candidate-read : bitXor word (four s n) ≡ bitXor word (place + f)
   candidate-read = ap₂ (λ (x y : ℕ). bitXor word (x + y)) (sym place-worth) (sym rest-read)
 
-  pub turn-fits : f < place → place + f < 2 ^ 32
-  turn-fits l = omega (arith, place-worth, pow-lt place-lt)
+  pub turn-word : f < place → place + f < words
+  turn-word l = let h : n ≤ 23 = omega (arith, place-lt) in omega (arith, place-worth, pow-mono h)
 
   pub turn-room : f < place → first < end
   turn-room l = omega (arith, leads-gap word s slots first end n this (leads-read l))

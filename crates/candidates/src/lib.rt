@@ -1,7 +1,10 @@
 // The candidate call (rules 5.7 and 5.8), by the table of error patterns. It answers for every input, and its promise decides the whole answer
 // and what the slots hold.
 ghost use mathlib.Core.Path.{_≡_};
+ghost use Prim.Native.Nat.{_<_};
+ghost use lib.Bits.{bitXor};
 ghost use lib.ListN.{length};
+ghost use Rattle.code.specs.Code.{words};
 ghost use Rattle.candidates.specs.Answers.{candidatesAnswer};
 ghost use Rattle.candidates.specs.Calls.{WritesCandidates};
 ghost use Rattle.candidates.specs.Candidates.{Candidates, AtFour};
@@ -9,9 +12,22 @@ ghost use Rattle.candidates.specs.Candidates.{Candidates, AtFour};
 pub mod kinds;
 
 use golay::kinds::Refusal;
-use golay::kinds::SyndromeAnswer;
+use hard::kinds::ApplyAnswer;
+use hard::kinds::FindAnswer;
+use hard::kinds::Pattern;
 use kinds::CandidatesAnswer;
 use rows::SYNDROMES;
+
+// An error applied to a word.
+fn applied(word: u32, error: u32) -> u32
+    requires { ⌜ (word < words) × (error < words) ⌝ }
+    ensures { λ r. ⌜ r ≡ bitXor word error ⌝ }
+{
+    match hard::apply(word, Pattern(error)) {
+        ApplyAnswer::Accepted(candidate) => candidate,
+        ApplyAnswer::Refused(_) => word,
+    }
+}
 
 // Writes the six codewords at distance four from a word of syndrome s. Each differs from the word by an error of four ones: its highest place,
 // and the pattern of what syndrome is left. Going down the places, the codeword found at one stands before all that follow if the word has a
@@ -29,7 +45,7 @@ fn fill(word: u32, s: u32, slots: &mut [u32])
         let place: u32 = 1 << i;
         let rest = lookup::pattern(s ^ SYNDROMES[i as usize]);
         if rest < place {
-            let candidate = word ^ (place + rest);
+            let candidate = applied(word, place + rest);
             if (word >> i) % 2 == 1 {
                 slots[first] = candidate;
                 first += 1;
@@ -48,13 +64,13 @@ pub fn candidates(word: u32, slots: &mut [u32]) -> CandidatesAnswer
     if slots.len() != 6 {
         return CandidatesAnswer::Refused(Refusal::WrongLength);
     }
-    match golay::syndrome(word) {
-        SyndromeAnswer::Refused(reason) => CandidatesAnswer::Refused(reason),
-        SyndromeAnswer::Accepted(s) => {
-            if golay::ones(lookup::pattern(s.0)) != 4 {
+    match hard::find(word) {
+        FindAnswer::Refused(reason) => CandidatesAnswer::Refused(reason),
+        FindAnswer::Accepted(_, distance) => {
+            if distance != 4 {
                 return CandidatesAnswer::Refused(Refusal::NotDistanceFour);
             }
-            fill(word, s.0, slots);
+            fill(word, rows::syndrome_of(word), slots);
             CandidatesAnswer::Accepted
         }
     }

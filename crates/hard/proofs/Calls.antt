@@ -1,9 +1,10 @@
 -- What finding and correction return, by what is found of the word, is what their promises say.
 -- Assumes nothing.
 use mathlib.Core.Path.{_≡_, sym, ap, _∙_}
-use Prim.Native.Nat.{ℕ}
+use Prim.Native.Nat.{ℕ, _<_}
 use native.Mathlib.Omega.{arith}
 use lib.Bits.{bitXor}
+use Rattle.code.specs.Code.{words}
 use Rattle.golay.specs.declared.kinds.Refusal.{Refusal}
 use Rattle.golay.specs.Answers.{accepted, refused}
 use Rattle.hard.specs.declared.kinds.ApplyAnswer.{ApplyAnswer}
@@ -49,12 +50,12 @@ module _ {word p n : ℕ} (f : Found word p n) where
     answered = rw (f .count) (sym (correct-nearer word p (f .low) (λ o. e (f .count ∙ o))));
   }
 
-  -- the pattern is a word, so applying it to the word is not refused
-  module _ {answer : ApplyAnswer} (rule : applyAnswer answer ≡ applyRule word p) where
-    pub applied : {v : ℕ} → answer ≡ apply.Accepted v → v ≡ bitXor word p
-    applied e = cc (sym (ap applyAnswer e) ∙ rule ∙ apply-within word p (f .low) (f .rule .word))
+-- where both are words, applying is not refused
+module _ {word p : ℕ} (h : word < words) (g : p < words) {answer : ApplyAnswer} (rule : applyAnswer answer ≡ applyRule word p) where
+  pub applied : {v : ℕ} → answer ≡ apply.Accepted v → v ≡ bitXor word p
+  applied e = cc (sym (ap applyAnswer e) ∙ rule ∙ apply-within word p h g)
 
-    pub not-refused : {reason : Refusal} → answer ≡ apply.Refused reason → ⊥
-    not-refused e =
-        let z : _≡_ {A = ℕ} 0 1 = cc (sym (ap applyAnswer e) ∙ rule ∙ apply-within word p (f .low) (f .rule .word)) in
-        omega arith
+  pub not-refused : {reason : Refusal} → answer ≡ apply.Refused reason → ⊥
+  not-refused e =
+      let z : _≡_ {A = ℕ} 0 1 = cc (sym (ap applyAnswer e) ∙ rule ∙ apply-within word p h g) in
+      omega arith

@@ -4,7 +4,7 @@ use mathlib.Core.Path.{_∙_, sym}
 use native.Mathlib.Omega.{arith}
 use denote.Ref.{now}
 use borrow.Author.Needs.{needs}
-use Rattle.candidates.proofs.Slots.{FilledFrom, begun, done, turn-fits, turn-room, turn-skip, turn-front, turn-back}
+use Rattle.candidates.proofs.Slots.{FilledFrom, begun, done, turn-word, turn-room, turn-skip, turn-front, turn-back}
 use Rattle.candidates.proofs.fill.Statement.{statement}
 use Rattle.candidates.proofs.fill.Tie as tie
 
@@ -37,10 +37,15 @@ array-read-pattern c = search needs
 pattern-requires : tie.Need-pattern-requires Inv-loop μ-loop
 pattern-requires c κs = search needs
 
-add-candidate : tie.Need-add-candidate Inv-loop μ-loop
-add-candidate c =
+add-applied : tie.Need-add-applied Inv-loop μ-loop
+add-applied c =
     let l = c .before .before .before in
-    record { fits = turn-fits (l .before .before .pre .0) (l .loop .inv) (omega arith) (c .before .pattern .ensures) (c .if1 .taken) }
+    record { fits = omega (arith, turn-word (l .before .before .pre .0) (l .loop .inv) (omega arith) (c .before .pattern .ensures) (c .if1 .taken)) }
+
+applied-requires : tie.Need-applied-requires Inv-loop μ-loop
+applied-requires c κs =
+    let l = c .before .before .before in
+    (l .before .before .pre .0 .within, turn-word (l .before .before .pre .0) (l .loop .inv) (omega arith) (c .before .pattern .ensures) (c .if1 .taken))
 
 shr-if2 : tie.Need-shr-if2 Inv-loop μ-loop
 shr-if2 c = search needs
@@ -50,8 +55,8 @@ mul-slots c = search needs
 
 slice-write-slots : tie.Need-slice-write-slots Inv-loop μ-loop
 slice-write-slots c =
-    let l = c .before .before .before .before in
-    omega (arith, turn-room (l .before .before .pre .0) (l .loop .inv) (omega arith) (c .before .before .pattern .ensures) (c .before .if1 .taken))
+    let l = c .before .before .before .before .before in
+    omega (arith, turn-room (l .before .before .pre .0) (l .loop .inv) (omega arith) (c .before .before .before .pattern .ensures) (c .before .before .if1 .taken))
 
 add-first : tie.Need-add-first Inv-loop μ-loop
 add-first c = search needs
@@ -61,29 +66,33 @@ loop-less c = search needs
 
 loop-again : tie.Need-loop-again Inv-loop μ-loop
 loop-again c =
-    let l = c .before .before .before .before in
-    turn-front (l .before .before .pre .0) (l .loop .inv) (omega arith) (c .before .before .pattern .ensures) (c .before .if1 .taken) (c .if2 .taken)
+    let l = c .before .before .before .before .before in
+    rw (c .before .applied .ensures)
+    (turn-front (l .before .before .pre .0) (l .loop .inv) (omega arith) (c .before .before .before .pattern .ensures) (c .before .before .if1 .taken)
+    (c .if2 .taken))
 
 sub-end : tie.Need-sub-end Inv-loop μ-loop
 sub-end c =
-    let l = c .before .before .before .before in
-    omega (arith, turn-room (l .before .before .pre .0) (l .loop .inv) (omega arith) (c .before .before .pattern .ensures) (c .before .if1 .taken))
+    let l = c .before .before .before .before .before in
+    omega (arith, turn-room (l .before .before .pre .0) (l .loop .inv) (omega arith) (c .before .before .before .pattern .ensures) (c .before .before .if1 .taken))
 
 mul-slots-2 : tie.Need-mul-slots-2 Inv-loop μ-loop
 mul-slots-2 c = search needs
 
 slice-write-slots-2 : tie.Need-slice-write-slots-2 Inv-loop μ-loop
 slice-write-slots-2 c =
-    let l = c .before .before .before .before in
-    omega (arith, turn-room (l .before .before .pre .0) (l .loop .inv) (omega arith) (c .before .before .pattern .ensures) (c .before .if1 .taken))
+    let l = c .before .before .before .before .before in
+    omega (arith, turn-room (l .before .before .pre .0) (l .loop .inv) (omega arith) (c .before .before .before .pattern .ensures) (c .before .before .if1 .taken))
 
 loop-less-2 : tie.Need-loop-less-2 Inv-loop μ-loop
 loop-less-2 c = search needs
 
 loop-again-2 : tie.Need-loop-again-2 Inv-loop μ-loop
 loop-again-2 c =
-    let l = c .before .before .before .before in
-    turn-back (l .before .before .pre .0) (l .loop .inv) (omega arith) (c .before .before .pattern .ensures) (c .before .if1 .taken) (c .if2 .left)
+    let l = c .before .before .before .before .before in
+    rw (c .before .applied .ensures)
+    (turn-back (l .before .before .pre .0) (l .loop .inv) (omega arith) (c .before .before .before .pattern .ensures) (c .before .before .if1 .taken)
+    (c .if2 .left))
 
 loop-less-3 : tie.Need-loop-less-3 Inv-loop μ-loop
 loop-less-3 c = search needs
@@ -112,7 +121,8 @@ fill-spec =
     mul-pattern
     array-read-pattern
     pattern-requires
-    add-candidate
+    add-applied
+    applied-requires
     shr-if2
     mul-slots
     slice-write-slots

@@ -41,7 +41,7 @@ returns-3 c =
     let matched = applied-to .before .before .before in
     let called = matched .before .before in
     let f = find-accepted (called .find .ensures) (matched .pattern .given .1) in
-    absurd (not-refused f (applied-to .apply .ensures) (c .before .reason2 .given .1))
+    absurd (not-refused (f .low) (f .rule .word) (applied-to .apply .ensures) (c .before .reason2 .given .1))
 
 returns-4 : tie.Need-returns-4
 returns-4 c =
@@ -49,7 +49,7 @@ returns-4 c =
     let matched = applied-to .before .before .before in
     let called = matched .before .before in
     let f = find-accepted (called .find .ensures) (matched .pattern .given .1) in
-    rw (applied f (applied-to .apply .ensures) (c .before .codeword .given .1)) (corrects-nearer f (applied-to .before .if1 .left))
+    rw (applied (f .low) (f .rule .word) (applied-to .apply .ensures) (c .before .codeword .given .1)) (corrects-nearer f (applied-to .before .if1 .left))
 
 pub correct-spec : {M : Type 1} → statement M
 correct-spec =
