@@ -7,9 +7,9 @@ use lib.IntN.{ℤ}
 use Rattle.golay.specs.Calls.{encodeRule, readRule, syndromeRule}
 use Rattle.bytewise.specs.Bytes.{bytesOf}
 use Rattle.bytewise.specs.Calls.{writeBytesRule, readBytesRule}
-use Rattle.hard.specs.Answers.{Correction}
-use Rattle.hard.specs.Calls.{Corrects}
-use Rattle.hard.proofs.Decided.{correct-once}
+use Rattle.hard.specs.Answers.{Finding, Correction}
+use Rattle.hard.specs.Calls.{Finds, applyRule, Corrects}
+use Rattle.hard.proofs.Decided.{find-once, correct-once}
 use Rattle.favours.specs.Calls.{columnFigureRule}
 use Rattle.soft.specs.declared.kinds.Soft.{Soft}
 use Rattle.soft.specs.Calls.{ClassFigureRule, SoftRule}
@@ -31,6 +31,12 @@ read-decided word before after later status other = hands-decided
 
 pub syndrome-decided : (word : ℕ) → Decided (HandsBack (syndromeRule word) itself)
 syndrome-decided word before after later status other = hands-decided
+
+pub find-decided : (word : ℕ) → Decided {M = Finding} (HandsBackOne (Finds word) itself)
+find-decided word before after later status other = hands-one-decided (find-once word)
+
+pub apply-decided : (word pattern : ℕ) → Decided (HandsBack (applyRule word pattern) itself)
+apply-decided word pattern before after later status other = hands-decided
 
 pub correct-decided : (word : ℕ) → Decided {M = Correction} (HandsBackOne (Corrects word) itself)
 correct-decided word before after later status other = hands-one-decided (correct-once word)

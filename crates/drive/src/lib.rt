@@ -2,12 +2,12 @@
 ghost use Rattle.golay.specs.Calls.{encodeRule, readRule, syndromeRule};
 ghost use Rattle.bytewise.specs.Bytes.{bytesOf};
 ghost use Rattle.bytewise.specs.Calls.{writeBytesRule, readBytesRule};
-ghost use Rattle.hard.specs.Calls.{Corrects};
+ghost use Rattle.hard.specs.Calls.{Finds, applyRule, Corrects};
 ghost use Rattle.favours.specs.Calls.{columnFigureRule};
 ghost use Rattle.soft.specs.Calls.{ClassFigureRule, SoftRule};
 ghost use Rattle.quick.specs.Quick.{QuickRule};
 ghost use Rattle.hands.specs.Hands.{HandsBack, HandsBackOne, HandsBackCandidates, itself};
-ghost use Rattle.drive.specs.Outputs.{correction, values};
+ghost use Rattle.drive.specs.Outputs.{finding, correction, values};
 use bytewise::kinds::ReadBytesAnswer;
 use bytewise::kinds::WriteBytesAnswer;
 use candidates::kinds::CandidatesAnswer;
@@ -16,7 +16,10 @@ use golay::kinds::EncodeAnswer;
 use golay::kinds::Message;
 use golay::kinds::ReadAnswer;
 use golay::kinds::SyndromeAnswer;
+use hard::kinds::ApplyAnswer;
 use hard::kinds::CorrectAnswer;
+use hard::kinds::FindAnswer;
+use hard::kinds::Pattern;
 use quick::kinds::QuickAnswer;
 use soft::kinds::ClassFigureAnswer;
 use soft::kinds::SoftAnswer;
@@ -57,6 +60,33 @@ pub extern "C" fn garthumor_syndrome(word: u32, syndrome: &mut u32) -> u8
             0
         }
         SyndromeAnswer::Refused(reason) => golay::refusal_number(reason),
+    }
+}
+
+#[no_mangle]
+pub extern "C" fn garthumor_find(word: u32, pattern: &mut u32, distance: &mut u32) -> u8
+    ensures { λ r. ⌜ HandsBackOne (Finds word) itself (finding (now (pattern .entry)) (now (distance .entry))) (finding (now (pattern .exit)) (now (distance .exit))) r ⌝ }
+{
+    match hard::find(word) {
+        FindAnswer::Accepted(p, d) => {
+            *pattern = p.0;
+            *distance = d;
+            0
+        }
+        FindAnswer::Refused(reason) => golay::refusal_number(reason),
+    }
+}
+
+#[no_mangle]
+pub extern "C" fn garthumor_apply(word: u32, pattern: u32, result: &mut u32) -> u8
+    ensures { λ r. ⌜ HandsBack (applyRule word pattern) itself (now (result .entry)) (now (result .exit)) r ⌝ }
+{
+    match hard::apply(word, Pattern(pattern)) {
+        ApplyAnswer::Accepted(w) => {
+            *result = w;
+            0
+        }
+        ApplyAnswer::Refused(reason) => golay::refusal_number(reason),
     }
 }
 
