@@ -9,6 +9,9 @@
  *                fewer than 8 positions (2.3, 3.4)
  *   distance     at how many positions two words differ (5.1)
  *   syndrome     tells codewords from other words: 0 to 4,095, and 0 for codewords alone (4.1)
+ *   pattern      the bits of a word that are wrong, as a word. The error pattern of a word has the
+ *                fewest ones that make a codeword of it, 0 to 4, and of such patterns the least
+ *                as a number; its ones are the word's distance from the code (5.2 to 5.4)
  *   reading      24 confidences, position 1 first, each -2,147,483,647 to 2,147,483,647: positive
  *                speaks for bit 0, negative for bit 1, and its size is how strongly (6.1 to 6.3)
  *   correlation  how strongly a reading speaks for a codeword: the confidences where it has a 0,
@@ -45,9 +48,9 @@
 #include <stdint.h>
 
 /* The first number changes where a program that uses the library may have to change with it. */
-#define GARTHUMOR_VERSION "1.1.0"
+#define GARTHUMOR_VERSION "1.2.0"
 #define GARTHUMOR_VERSION_MAJOR 1
-#define GARTHUMOR_VERSION_MINOR 1
+#define GARTHUMOR_VERSION_MINOR 2
 #define GARTHUMOR_VERSION_PATCH 0
 
 /* What a call returns (11.1). 9 and 10 are missing: they tell how a capture stops, and no call here
@@ -56,7 +59,7 @@
 #define GARTHUMOR_WRONG_LENGTH 1       /* not 24 confidences, not 3 bytes or not 6 slots */
 #define GARTHUMOR_MOST_NEGATIVE 2      /* a confidence is -2,147,483,648 */
 #define GARTHUMOR_MESSAGE_ABOVE 3      /* above 4,095 */
-#define GARTHUMOR_WORD_ABOVE 4         /* above 16,777,215 */
+#define GARTHUMOR_WORD_ABOVE 4         /* a word or a pattern above 16,777,215 */
 #define GARTHUMOR_NOT_CODEWORD 5       /* a word, but no codeword */
 #define GARTHUMOR_TIED 6               /* two words are best, or more: there is no answer */
 #define GARTHUMOR_DISTANCE_FOUR 7      /* too far from the code to be corrected; six are as near */
@@ -105,6 +108,14 @@ uint8_t garthumor_read_bytes(const uint8_t *bytes, size_t length, uint32_t *code
 
 /* The nearest codeword and its distance, 0 to 3 (5.5). Refuses 4, 7. */
 uint8_t garthumor_correct(uint32_t word, uint32_t *codeword, uint32_t *distance);
+
+/* The same in two. find: a word's error pattern and its distance from the code, 0 to 4 (5.10). At
+ * 0 to 3 the pattern, applied to the word, gives correct's codeword; at 4, where correct refuses,
+ * one of six that are as near. Refuses 4. */
+uint8_t garthumor_find(uint32_t word, uint32_t *pattern, uint32_t *distance);
+
+/* apply: the exclusive or of a word and a pattern (5.11). Refuses 4 for either. */
+uint8_t garthumor_apply(uint32_t word, uint32_t pattern, uint32_t *result);
 
 /* Where correct refuses with 7: writes the six codewords at distance 4 to six slots, the least
  * first (5.7). Refuses 1, 4, 8. */

@@ -43,6 +43,8 @@ static uint8_t none(int r) { return (uint8_t)r; }
 static uint8_t encode(int r) { return garthumor_encode(numbers[r] % 4096, &one); }
 static uint8_t read_back(int r) { return garthumor_read(codewords[r], &one); }
 static uint8_t syndrome(int r) { return garthumor_syndrome(numbers[r], &one); }
+static uint8_t find(int r) { return garthumor_find(numbers[r], &one, &other); }
+static uint8_t apply(int r) { return garthumor_apply(numbers[r], codewords[r], &one); }
 static uint8_t correct(int r) { return garthumor_correct(numbers[r], &one, &other); }
 static uint8_t candidates(int r) { return garthumor_candidates(numbers[r], slots, SLOTS); }
 static uint8_t class_figure(int r) { return garthumor_class_figure(readings[r], POSITIONS, numbers[r] % CLASSES, &wide); }
@@ -66,6 +68,8 @@ static const struct call calls[] = {
     { "encode", encode, 1 },
     { "read", read_back, 1 },
     { "syndrome", syndrome, 1 },
+    { "find", find, 1 },
+    { "apply", apply, 1 },
     { "correct", correct, 1 },
     { "candidates", candidates, 1 },
     { "class_figure", class_figure, 1 },

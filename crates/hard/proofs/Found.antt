@@ -20,7 +20,7 @@ use Rattle.golay.specs.Answers.{accepted, refused, syndromeAnswer}
 use Rattle.golay.specs.Calls.{syndromeRule}
 use Rattle.golay.proofs.Rules.{syndrome-above, syndrome-within}
 use Rattle.patterns.specs.Patterns.{IsPattern}
-use Rattle.patterns.specs.Positions.{spread, count, fields, Stored}
+use Rattle.patterns.specs.Positions.{spread, fields, held, Stored}
 use Rattle.patterns.proofs.Positions.{stored-ones}
 use Rattle.table.proofs.Table.{table}
 use Rattle.table.proofs.Entries.{table-pattern}
@@ -65,7 +65,7 @@ pub record Found (word p n : ℕ) : Type 0 where
   pub rule : IsPattern (syndromeOf word) p
   pub count : n ≡ ones 24 p
 
-pub found : {word s e p n : ℕ} → Within word s → Stored (s % syndromes) e → p ≡ spread (fields 4 e) → n ≡ count (fields 4 e) → Found word p n
+pub found : {word s e p n : ℕ} → Within word s → Stored (s % syndromes) e → p ≡ spread (fields 4 e) → n ≡ held 4 e → Found word p n
 found {e = e} w r q c = record {
   low = w .low;
   rule = subst₂ IsPattern (mod-eq-of-lt (within-lt w) ∙ w .syndrome) (sym q) (r .rule);

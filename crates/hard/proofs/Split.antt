@@ -46,15 +46,23 @@ module _ {word : ℕ} {x : Finding} (f : Finds word (accepted x)) where
 
     -- Rule 5.11: at distance 0 to 3 both ways answer the same
     pub in-two : x .distance ≤ 3 → (w : ℕ) × ((a ≡ accepted w) × (c ≡ accepted (record { codeword = w; distance = x .distance })))
-    in-two l =
-        (bitXor word (x .pattern),
-        (applied-word,
-        same-rule ∙ rw (is .count) (correct-nearer word (x .pattern) (is .low) (λ e. omega (arith, is .count)))))
+    in-two l = (
+      bitXor word (x .pattern),
+      (
+        applied-word,
+        same-rule ∙ rw (is .count) (correct-nearer word (x .pattern) (is .low) (λ e. omega (arith, is .count))),
+      ),
+    )
 
     -- Rule 5.11: at distance 4 correction refuses, and applying gives a codeword at that distance
     pub in-two-four : x .distance ≡ 4 → (w : ℕ) × ((a ≡ accepted w) × (Nearest word w 4 × (c ≡ refused 7)))
-    in-two-four e =
-        (bitXor word (x .pattern),
-        (applied-word,
-        (subst (Nearest word (bitXor word (x .pattern))) e find-nearest,
-        same-rule ∙ correct-four word (x .pattern) (is .low) (sym (is .count) ∙ e))))
+    in-two-four e = (
+      bitXor word (x .pattern),
+      (
+        applied-word,
+        (
+          subst (Nearest word (bitXor word (x .pattern))) e find-nearest,
+          same-rule ∙ correct-four word (x .pattern) (is .low) (sym (is .count) ∙ e),
+        ),
+      ),
+    )

@@ -23,7 +23,7 @@ pub fn find(word: u32) -> FindAnswer
         SyndromeAnswer::Refused(reason) => FindAnswer::Refused(reason),
         SyndromeAnswer::Accepted(s) => {
             let entry = lookup::entry(s.0);
-            FindAnswer::Accepted(Pattern(patterns::spread(entry)), patterns::count(entry))
+            FindAnswer::Accepted(Pattern(patterns::spread(entry)), patterns::held(entry))
         }
     }
 }
@@ -54,7 +54,7 @@ pub fn correct(word: u32) -> CorrectAnswer
             }
             match apply(word, pattern) {
                 ApplyAnswer::Refused(reason) => CorrectAnswer::Refused(reason),
-                ApplyAnswer::Accepted(codeword) => CorrectAnswer::Accepted(Codeword(codeword), distance),
+                ApplyAnswer::Accepted(c) => CorrectAnswer::Accepted(Codeword(c), distance),
             }
         }
     }

@@ -4,21 +4,22 @@
 use mathlib.Core.Path.{_≡_, refl, sym, ap, ap₂, _∙_, subst}
 use mathlib.Core.Logic.{inl, inr, ⊎-elim}
 use mathlib.Core.Bool.{cond}
-use mathlib.Core.List.{List, [], _∷_}
+use mathlib.Core.List.{List, [], _∷_, _++_}
 use Prim.Native.Nat.{ℕ, zero, suc, _+_, _-_, _*_, _/_, _%_, _^_, _≤_, _<_}
-use native.Mathlib.Nat.{mul-div-cancel, mul-comm, div-one, mod-one, mod-eq-of-lt, one-le-pow, pow-suc, eq-or-lt-of-le}
+use native.Mathlib.Nat.{mul-div-cancel, mul-comm, div-one, div-div-eq-div-mul, mod-one, mod-eq-of-lt, one-le-pow, pow-suc, eq-or-lt-of-le}
 use native.Mathlib.Omega.{arith}
-use lib.Dec.{lit<}
+use native.Mathlib.Decide.{ℕ-discrete}
+use lib.Dec.{lit<, eqb}
 use lib.Arith.{mod-mul}
 use lib.Pow.{pow-pos, pow-mono, pow-add}
 use lib.ListN.{length, replicate, take, drop}
 use lib.Seq.{getD-take, getD-drop}
-use borrow.Author.Tests.{ne-eqb}
+use borrow.Author.Tests.{eq-eqb, ne-eqb}
 use Rattle.binary.specs.Words.{ones}
 use Rattle.binary.proofs.Ones.{ones-zero}
 use Rattle.binary.proofs.Places.{Top, ones-top, le-or-lt}
 use Rattle.patterns.specs.Patterns.{IsPattern}
-use Rattle.patterns.specs.Positions.{none, worth, spread, count, InOrder, fields, Stored, AreStored}
+use Rattle.patterns.specs.Positions.{none, worth, spread, count, InOrder, fields, held, Stored, AreStored}
 use Rattle.patterns.proofs.Patterns.{pattern-unique}
 
 worth-at : (p : ℕ) → p ≤ 24 → worth p ≡ 2 ^ (24 - p)
@@ -79,6 +80,9 @@ highest before p ps l h o = record {
   whole = ap (λ (x : ℕ). x + spread ps) (worth-at p h);
 }
 
+count-position : (p : ℕ) (ps : List ℕ) → (p ≡ none → ⊥) → count (p ∷ ps) ≡ suc (count ps)
+count-position p ps d = ap (λ b. cond b 0 1 + count ps) (ne-eqb p none d) ∙ omega arith
+
 -- Rule 5.9: as many positions as ones
 pub ones-counted : (before : ℕ) (ps : List ℕ) → InOrder before ps → ones 24 (spread ps) ≡ count ps
 ones-counted before [] o = ones-zero 24
@@ -87,7 +91,7 @@ ones-counted before (p ∷ ps) o =
     (λ n.
     ones-top (highest before p ps (n .0) (n .1) (o .1))
     ∙ ap suc (ones-counted p ps (o .1))
-    ∙ sym (ap (λ b. cond b 0 1 + count ps) (ne-eqb p none (λ e. omega (arith, n .1))) ∙ omega arith))
+    ∙ sym (count-position p ps (λ e. omega (arith, n .1))))
     (λ e. ap (ones 24) (nothing-spread p ps e (o .1)) ∙ ones-zero 24 ∙ sym (nothing-counted p ps e (o .1)))
     (o .0)
 
@@ -140,7 +144,7 @@ spread-once before (x ∷ xs) (y ∷ ys) o q l e =
     (q .0))
     (o .0)
 
--- ---- a stored pattern
+-- ---- fields
 
 -- the number that fields make
 together : List ℕ → ℕ
@@ -163,7 +167,7 @@ fields-once : (n x y : ℕ) → x < 32 ^ n → y < 32 ^ n → fields n x ≡ fie
 fields-once n x y h g e =
     sym (mod-eq-of-lt h) ∙ sym (fields-together n x) ∙ ap together e ∙ fields-together n y ∙ mod-eq-of-lt g
 
--- what is added up field by field, as the functions do
+-- what is added up field by field, as `spread` does
 pub four-fields :
     (f : ℕ → ℕ) (e : ℕ) {a b c d : ℕ}
     → a ≡ f (e / 32768 % 32)
@@ -177,20 +181,79 @@ four-fields f e {a} {b} {c} {d} p q r s =
     added : (a b c d : ℕ) {x y z w : ℕ} → a ≡ x → b ≡ y → c ≡ z → d ≡ w → a + b + c + d ≡ x + (y + (z + (w + 0)))
     added a b c d p q r s = omega arith
 
+-- ---- counted from the end
+
+fields-end : (n e : ℕ) → fields (suc n) e ≡ fields n (e / 32) ++ (e % 32 ∷ [])
+fields-end zero e = ap (λ (x : ℕ). x % 32 ∷ []) (div-one e)
+fields-end (suc n) e =
+    ap₂ (λ (x : ℕ) (xs : List ℕ). x % 32 ∷ xs)
+    (ap (λ (x : ℕ). e / x) (pow-suc 32 n ∙ mul-comm (32 ^ n) 32) ∙ sym (div-div-eq-div-mul e 32 (32 ^ n)))
+    (fields-end n e)
+
+order-front : (before : ℕ) (ps qs : List ℕ) → InOrder before (ps ++ qs) → InOrder before ps
+order-front before [] qs o = tt
+order-front before (p ∷ ps) qs o = (o .0, order-front p ps qs (o .1))
+
+none-end : (ps : List ℕ) (q : ℕ) → InOrder none (ps ++ (q ∷ [])) → q ≡ none
+none-end [] q o = ⊎-elim (λ n. let f : ⊥ = omega (arith, n .0, n .1) in absurd f) (λ e. e) (o .0)
+none-end (p ∷ ps) q o =
+    ⊎-elim
+    (λ n. let f : ⊥ = omega (arith, n .0, n .1) in absurd f)
+    (λ e. none-end ps q (subst (λ (x : ℕ). InOrder x (ps ++ (q ∷ []))) e (o .1)))
+    (o .0)
+
+-- where the last is a position, all are
+count-all : (before : ℕ) (ps : List ℕ) (q : ℕ) → InOrder before (ps ++ (q ∷ [])) → (q ≡ none → ⊥) → count (ps ++ (q ∷ [])) ≡ suc (length ps)
+count-all before [] q o d = count-position q [] d
+count-all before (p ∷ ps) q o d =
+    count-position p (ps ++ (q ∷ [])) (λ e. d (none-end ps q (subst (λ (x : ℕ). InOrder x (ps ++ (q ∷ []))) e (o .1))))
+    ∙ ap suc (count-all p ps q (o .1) d)
+
+count-front : (ps : List ℕ) → count (ps ++ (none ∷ [])) ≡ count ps
+count-front [] = refl
+count-front (p ∷ ps) = ap (λ (x : ℕ). cond (eqb p none) 0 1 + x) (count-front ps)
+
+-- one field more: a position, or none
+pub held-here : (n e : ℕ) → (e % 32 ≡ none → ⊥) → held (suc n) e ≡ suc n
+held-here n e d = ap (λ b. cond b (held n (e / 32)) (suc n)) (ne-eqb (e % 32) none d)
+
+pub held-past : (n e : ℕ) → e % 32 ≡ none → held (suc n) e ≡ held n (e / 32)
+held-past n e z = ap (λ b. cond b (held n (e / 32)) (suc n)) (eq-eqb (e % 32) none z)
+
+pub held-count : (before n e : ℕ) → InOrder before (fields n e) → held n e ≡ count (fields n e)
+held-count before zero e o = refl
+held-count before (suc n) e o = by (ℕ-discrete (e % 32) none) (held-count before n (e / 32))
+  where
+    split : InOrder before (fields n (e / 32) ++ (e % 32 ∷ []))
+    split = subst (InOrder before) (fields-end n e) o
+
+    by : Dec (e % 32 ≡ none) → (InOrder before (fields n (e / 32)) → held n (e / 32) ≡ count (fields n (e / 32))) → held (suc n) e ≡ count (fields (suc n) e)
+    by (yes z) deeper =
+        held-past n e z
+        ∙ deeper (order-front before (fields n (e / 32)) (e % 32 ∷ []) split)
+        ∙ sym (ap count (fields-end n e ∙ ap (λ (x : ℕ). fields n (e / 32) ++ (x ∷ [])) z) ∙ count-front (fields n (e / 32)))
+    by (no d) deeper =
+        held-here n e d
+        ∙ ap suc (sym (fields-length n (e / 32)))
+        ∙ sym (ap count (fields-end n e) ∙ count-all before (fields n (e / 32)) (e % 32) split d)
+
+-- ---- stored
+
 pub stored-once : {s x y : ℕ} → Stored s x → Stored s y → x ≡ y
 stored-once {s} {x} {y} p q =
     fields-once 4 x y (p .short) (q .short) (spread-once 0 (fields 4 x) (fields 4 y) (p .order) (q .order) refl (pattern-unique (p .rule) (q .rule)))
 
-pub stored-ones : {s entry : ℕ} → Stored s entry → ones 24 (spread (fields 4 entry)) ≡ count (fields 4 entry)
-stored-ones {s} {entry} p = ones-counted 0 (fields 4 entry) (p .order)
+-- the distance: as many are held as the pattern has ones
+pub stored-ones : {s entry : ℕ} → Stored s entry → ones 24 (spread (fields 4 entry)) ≡ held 4 entry
+stored-ones {s} {entry} p = ones-counted 0 (fields 4 entry) (p .order) ∙ sym (held-count 0 4 entry (p .order))
 
 -- Rule 15.8: each part of a table of stored patterns is such a table
 pub part-stored :
     {count : ℕ} {lows highs : List ℕ} → AreStored 0 count lows highs → (skip n : ℕ) → (skip + n) * 4 ≤ count → AreStored (skip * 4) (n * 4) (take n (drop skip lows)) (take n (drop skip highs))
 part-stored {count} {lows} {highs} t skip n h = record {
   each = λ k g.
-    let place : k / 4 < n = omega arith in
-    let same : (0 + (skip * 4 + k) ≡ skip * 4 + k) × (((skip * 4 + k) / 4 ≡ skip + k / 4) × ((skip * 4 + k) % 4 ≡ k % 4)) = (omega arith, (omega arith, omega arith)) in
-    rw (getD-take n (drop skip lows) (k / 4) 0 place, getD-drop skip lows (k / 4) 0, getD-take n (drop skip highs) (k / 4) 0 place, getD-drop skip highs (k / 4) 0)
-    (rw (same .0, same .1 .0, same .1 .1) at (t .each (skip * 4 + k) (omega arith)));
+      let place : k / 4 < n = omega arith in
+      let same : (0 + (skip * 4 + k) ≡ skip * 4 + k) × (((skip * 4 + k) / 4 ≡ skip + k / 4) × ((skip * 4 + k) % 4 ≡ k % 4)) = (omega arith, (omega arith, omega arith)) in
+      rw (getD-take n (drop skip lows) (k / 4) 0 place, getD-drop skip lows (k / 4) 0, getD-take n (drop skip highs) (k / 4) 0 place, getD-drop skip highs (k / 4) 0)
+      (rw (same .0, same .1 .0, same .1 .1) at (t .each (skip * 4 + k) (omega arith)));
 }

@@ -22,7 +22,7 @@ abbrev pub spread : List ℕ → ℕ
 spread [] = 0
 spread (p ∷ ps) = worth p + spread ps
 
--- how many of them are not none
+-- Rule 5.9: how many of them are not none
 abbrev pub count : List ℕ → ℕ
 count [] = 0
 count (p ∷ ps) = cond (eqb p none) 0 1 + count ps
@@ -36,6 +36,11 @@ InOrder before (p ∷ ps) = (((before < p) × (p ≤ positions)) ⊎ (p ≡ none
 abbrev pub fields : ℕ → ℕ → List ℕ
 fields zero entry = []
 fields (suc n) entry = entry / 32 ^ n % 32 ∷ fields n entry
+
+-- how many of the n lowest fields of a number are left where those at their end that hold none are taken off
+abbrev pub held : ℕ → ℕ → ℕ
+held zero entry = 0
+held (suc n) entry = cond (eqb (entry % 32) none) (held n (entry / 32)) (suc n)
 
 -- Rule 5.9: a number of 20 bits, whose four fields are the positions of the pattern of a syndrome (5.2)
 pub record Stored (s entry : ℕ) : Type 0 where

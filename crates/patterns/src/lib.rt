@@ -1,9 +1,7 @@
 // The rule of the error patterns and the nearest codeword: definitions in specs/, laws in proofs/. And what a stored pattern (rule 5.9) means:
 // the word that its positions make, and how many they are.
 ghost use mathlib.Core.Path.{_≡_};
-ghost use mathlib.Core.Bool.{cond};
 ghost use Prim.Native.Nat.{_≤_, _<_};
-ghost use lib.Dec.{eqb};
 ghost use Rattle.code.specs.Code.{words};
 ghost use Rattle.patterns.specs.Positions as positions;
 
@@ -15,23 +13,32 @@ fn worth(field: u32) -> u32
     16_777_216 >> field
 }
 
-// 1 for a field that holds a position, 0 for one that holds none.
-fn taken(field: u32) -> u32
-    ensures { λ r. ⌜ (r ≡ cond (eqb field positions.none) 0 1) × (r ≤ 1) ⌝ }
-{
-    if field == 31 { 0 } else { 1 }
-}
-
 // The word that has its ones at the positions in the lowest four fields of an entry.
 pub fn spread(entry: u32) -> u32
     ensures { λ r. ⌜ r ≡ positions.spread (positions.fields 4 entry) ⌝ }
 {
-    worth(entry / 32_768 % 32) + worth(entry / 1_024 % 32) + worth(entry / 32 % 32) + worth(entry % 32)
+    worth(entry / 32_768 % 32)
+        + worth(entry / 1_024 % 32)
+        + worth(entry / 32 % 32)
+        + worth(entry % 32)
 }
 
-// How many of the lowest four fields of an entry hold a position.
-pub fn count(entry: u32) -> u32
-    ensures { λ r. ⌜ r ≡ positions.count (positions.fields 4 entry) ⌝ }
+// How many of the lowest four fields of an entry are left where those at their end that hold none are taken off: in a stored pattern these are
+// its positions, and as many as its ones.
+pub fn held(entry: u32) -> u32
+    ensures { λ r. ⌜ r ≡ positions.held 4 entry ⌝ }
 {
-    taken(entry / 32_768 % 32) + taken(entry / 1_024 % 32) + taken(entry / 32 % 32) + taken(entry % 32)
+    if entry % 32 != 31 {
+        return 4;
+    }
+    if entry / 32 % 32 != 31 {
+        return 3;
+    }
+    if entry / 1_024 % 32 != 31 {
+        return 2;
+    }
+    if entry / 32_768 % 32 != 31 {
+        return 1;
+    }
+    0
 }

@@ -27,8 +27,8 @@ apply-requires c κs = search needs
 enum-known-reason-2 : tie.Need-enum-known-reason-2
 enum-known-reason-2 c = search needs
 
-enum-known-codeword : tie.Need-enum-known-codeword
-enum-known-codeword c = search needs
+enum-known-c : tie.Need-enum-known-c
+enum-known-c c = search needs
 
 returns-2 : tie.Need-returns-2
 returns-2 c =
@@ -49,7 +49,7 @@ returns-4 c =
     let matched = applied-to .before .before .before in
     let called = matched .before .before in
     let f = find-accepted (called .find .ensures) (matched .pattern .given .1) in
-    rw (applied (f .low) (f .rule .word) (applied-to .apply .ensures) (c .before .codeword .given .1)) (corrects-nearer f (applied-to .before .if1 .left))
+    rw (applied (f .low) (f .rule .word) (applied-to .apply .ensures) (c .before .c .given .1)) (corrects-nearer f (applied-to .before .if1 .left))
 
 pub correct-spec : {M : Type 1} → statement M
 correct-spec =
@@ -61,7 +61,7 @@ correct-spec =
     returns
     apply-requires
     enum-known-reason-2
-    enum-known-codeword
+    enum-known-c
     returns-2
     returns-3
     returns-4)

@@ -1,4 +1,4 @@
--- `hard::find` meets its contract: the stored pattern of golay's syndrome, as a word and counted, is what the rule goes by.
+-- `hard::find` meets its contract: the stored pattern of golay's syndrome, as a word and by its positions, is what the rule goes by.
 -- Assumes nothing.
 use borrow.Author.Needs.{needs}
 use Rattle.hard.proofs.Found.{syndrome-accepted, syndrome-refused, found}
@@ -21,8 +21,8 @@ entry-requires c κs = search needs
 spread-requires : tie.Need-spread-requires
 spread-requires c κs = search needs
 
-count-requires : tie.Need-count-requires
-count-requires c κs = search needs
+held-requires : tie.Need-held-requires
+held-requires c κs = search needs
 
 returns : tie.Need-returns
 returns c =
@@ -35,7 +35,7 @@ returns-2 c =
     let matched = read .before .before in
     let called = matched .before .before in
     let w = syndrome-accepted (called .before .args .word) (called .syndrome .ensures) (matched .s .given .1) in
-    finds-found (found w (read .entry .ensures) (c .before .spread .ensures) (c .count .ensures))
+    finds-found (found w (read .entry .ensures) (c .before .spread .ensures) (c .held .ensures))
 
 pub find-spec : {M : Type 1} → statement M
 find-spec =
@@ -46,6 +46,6 @@ find-spec =
     enum-known-s
     entry-requires
     spread-requires
-    count-requires
+    held-requires
     returns
     returns-2)

@@ -63,14 +63,13 @@ loop-less c = search needs
 loop-again : tie.Need-loop-again Inv-loop μ-loop
 loop-again c =
     let l = c .before .before .loop in
-    let row = c .before .before .before .row-of .result in
-    (
+    let row = c .before .before .before .row-of .result in (
       search needs,
       λ h.
-      ⊎-elim
-      (λ w. (w .3 ∙ ap (λ (k : ℕ). getD (row .lows) k 0) (w .0 .taken), w .4 ∙ ap (λ (k : ℕ). getD (row .highs) k 0) (w .0 .taken)))
-      (λ w. let kept = l .inv .1 (omega arith) in (w .1 ∙ kept .0, w .2 ∙ kept .1))
-      (c .if1 .came),
+          ⊎-elim
+          (λ w. (w .3 ∙ ap (λ (k : ℕ). getD (row .lows) k 0) (w .0 .taken), w .4 ∙ ap (λ (k : ℕ). getD (row .highs) k 0) (w .0 .taken)))
+          (λ w. let kept = l .inv .1 (omega arith) in (w .1 ∙ kept .0, w .2 ∙ kept .1))
+          (c .if1 .came),
     )
 
 entry-at-requires : tie.Need-entry-at-requires Inv-loop μ-loop
