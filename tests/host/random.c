@@ -1,4 +1,4 @@
-/* Random calls of all eleven entry points, with arguments that favour the edges and guard bytes around
+/* Random calls of all thirteen entry points, with arguments that favour the edges and guard bytes around
  * every buffer. After each call: the guards hold, inputs are as they were, a refusal left every
  * output alone and has the number that the rules of docs/RULES.md ask for, and an answer is the one
  * that they ask for. What they ask for is found here, with no help of the library. Only where that
@@ -84,21 +84,27 @@ static int encodes(uint32_t message, uint32_t codeword)
     return message < MESSAGES && codewords[message] == codeword;
 }
 
-/* How far from the code the words of each syndrome lie. */
-static uint32_t distances[MESSAGES];
+/* Of the words of each syndrome the least of those with the fewest ones, and how many it has: how far
+ * from the code they lie. */
+static uint32_t patterns[MESSAGES], distances[MESSAGES];
 
-/* One position more leads on from the syndromes at a distance to those not reached before. */
-static void list_distances(void)
+/* A word with its ones below a place, and all that it makes with more ones from there on. */
+static void list_patterns(uint32_t word, uint32_t ones, int place)
 {
-    for (uint32_t s = 1; s < MESSAGES; s++)
+    uint32_t s = syndrome_of(word);
+    if (ones < distances[s] || (ones == distances[s] && word < patterns[s])) {
+        patterns[s] = word;
+        distances[s] = ones;
+    }
+    for (; ones < FARTHEST && place < POSITIONS; place++)
+        list_patterns(word | 1u << place, ones + 1, place + 1);
+}
+
+static void list_all_patterns(void)
+{
+    for (uint32_t s = 0; s < MESSAGES; s++)
         distances[s] = UINT32_MAX;
-    for (uint32_t distance = 0; distance < FARTHEST; distance++)
-        for (uint32_t s = 0; s < MESSAGES; s++)
-            for (int i = 0; i < POSITIONS && distances[s] == distance; i++) {
-                uint32_t next = s ^ syndrome_of(1u << i);
-                if (distances[next] == UINT32_MAX)
-                    distances[next] = distance + 1;
-            }
+    list_patterns(0, 0, 0);
 }
 
 static uint32_t distance_from_code(uint32_t word) { return distances[syndrome_of(word)]; }
@@ -365,6 +371,25 @@ static struct outcome try_correct(void)
     return judged(given, asked, fact, "not the codeword at the least distance");
 }
 
+static struct outcome try_find(void)
+{
+    uint32_t word = some_word();
+    uint32_t *pattern = lend_output("pattern", sizeof *pattern);
+    uint32_t *distance = lend_output("distance", sizeof *distance);
+    uint8_t given = garthumor_find(word, pattern, distance);
+    int fact = *pattern == patterns[syndrome_of(word)] && *distance == distance_from_code(word);
+    return judged(given, asked_of_word(word), fact, "not the error pattern and its ones");
+}
+
+static struct outcome try_apply(void)
+{
+    uint32_t word = some_word(), pattern = chance() % 2 ? some_word() : some_number(WORDS);
+    uint32_t *result = lend_output("result", sizeof *result);
+    uint8_t given = garthumor_apply(word, pattern, result);
+    uint8_t asked = asked_of_word(word) != 0 ? 4 : asked_of_word(pattern);
+    return judged(given, asked, *result == (word ^ pattern), "not the exclusive or");
+}
+
 /* There are no more than six, so these are all. */
 static int are_candidates(uint32_t word, const uint32_t *slots)
 {
@@ -493,6 +518,8 @@ static const struct {
     { "read", try_read, { 4, 5 } },
     { "syndrome", try_syndrome, { 4 } },
     { "correct", try_correct, { 4, 7 } },
+    { "find", try_find, { 4 } },
+    { "apply", try_apply, { 4 } },
     { "candidates", try_candidates, { 1, 4, 8 } },
     { "class_figure", try_class_figure, { 1, 2, 11 } },
     { "column_figure", try_column_figure, { 1, 2, 11, 18 } },
@@ -554,7 +581,7 @@ int main(int argc, char **argv)
     printf("seed %" PRIu64 "\n", seed);
     unsigned long count = strtoul(argv[2], NULL, 10);
     list_codewords();
-    list_distances();
+    list_all_patterns();
     for (size_t i = 0; i < LONG; i++)
         contents[i] = chance();
     for (unsigned long number = 1; number <= count; number++)

@@ -20,7 +20,7 @@ enum { MOST_HEADS = 2, MOST_NUMBERS = 64, LINE_BYTES = 1024 };
 
 enum outcome { ANSWERED, REFUSED, BROKEN };
 
-/* A case: the message, words, class or column that the call has, and the numbers after them. */
+/* A case: the message, words, pattern, class or column that the call has, and the numbers after them. */
 struct given {
     uint32_t head[MOST_HEADS];
     int64_t numbers[MOST_NUMBERS];
@@ -129,6 +129,23 @@ static void replay_correct(const struct given *given)
     print_number(*distance);
 }
 
+static void replay_find(const struct given *given)
+{
+    uint32_t *pattern = lend_output("pattern", sizeof *pattern);
+    uint32_t *distance = lend_output("distance", sizeof *distance);
+    if (settle(garthumor_find(given->head[0], pattern, distance)) != ANSWERED)
+        return;
+    print_number(*pattern);
+    print_number(*distance);
+}
+
+static void replay_apply(const struct given *given)
+{
+    uint32_t *result = lend_output("result", sizeof *result);
+    if (settle(garthumor_apply(given->head[0], given->head[1], result)) == ANSWERED)
+        print_number(*result);
+}
+
 static void replay_candidates(const struct given *given)
 {
     uint32_t contents[MOST_NUMBERS];
@@ -205,6 +222,8 @@ static const struct call calls[] = {
     { "write_bytes", 1, MOST_NUMBERS - 1, 0, UINT8_MAX, replay_write_bytes },
     { "read_bytes", 0, MOST_NUMBERS, 0, UINT8_MAX, replay_read_bytes },
     { "correct", 1, 0, 0, 0, replay_correct },
+    { "find", 1, 0, 0, 0, replay_find },
+    { "apply", 2, 0, 0, 0, replay_apply },
     { "candidates", 1, MOST_NUMBERS - 1, 0, UINT32_MAX, replay_candidates },
     { "class_figure", 1, MOST_NUMBERS - 1, INT32_MIN, INT32_MAX, replay_class_figure },
     { "column_figure", 2, MOST_NUMBERS - 2, INT32_MIN, INT32_MAX, replay_column_figure },

@@ -115,6 +115,10 @@ pub fn distance_between(word: u32, other: u32) -> Result<u32, Refusal> {
     Ok(distance(word_in_range(word)?, word_in_range(other)?))
 }
 
+pub fn apply(word: u32, pattern: u32) -> Result<u32, Refusal> {
+    Ok(word_in_range(word)? ^ word_in_range(pattern)?)
+}
+
 /// The correlations of a column's two interpretations with its four confidences (8.3): that of the
 /// one with top bit 0, which is the column's figure, and that of the other.
 pub fn for_interpretations(
@@ -206,6 +210,20 @@ impl Code {
         } else {
             Ok((found[0], distance))
         }
+    }
+
+    /// The error pattern of a word (5.2) and its ones. The words of one syndrome are a word and what
+    /// it makes with each codeword (4.3), and of these the one with the fewest ones is sought, the
+    /// least where several have as many.
+    pub fn find(&self, word: u32) -> Result<(u32, u32), Refusal> {
+        word_in_range(word)?;
+        let pattern = self
+            .codewords
+            .iter()
+            .map(|&codeword| word ^ codeword)
+            .min_by_key(|&error| (error.count_ones(), error))
+            .expect("a codeword");
+        Ok((pattern, pattern.count_ones()))
     }
 
     pub fn candidates(&self, word: u32, slots: &mut [u32]) -> Result<(), Refusal> {

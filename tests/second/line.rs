@@ -15,6 +15,9 @@ pub enum Case {
     WriteBytes(u32, Vec<u8>),
     ReadBytes(Vec<u8>),
     Correct(u32),
+    Find(u32),
+    /// A word and a pattern.
+    Apply(u32, u32),
     /// A word and the lent slots' contents before the call.
     Candidates(u32, Vec<u32>),
     ClassFigure(u32, Vec<i32>),
@@ -38,6 +41,8 @@ impl Display for Case {
             Case::WriteBytes(word, bytes) => write!(f, "write_bytes {word}{}", spaced(bytes)),
             Case::ReadBytes(bytes) => write!(f, "read_bytes{}", spaced(bytes)),
             Case::Correct(word) => write!(f, "correct {word}"),
+            Case::Find(word) => write!(f, "find {word}"),
+            Case::Apply(word, pattern) => write!(f, "apply {word} {pattern}"),
             Case::Candidates(word, slots) => write!(f, "candidates {word}{}", spaced(slots)),
             Case::ClassFigure(class, reading) => {
                 write!(f, "class_figure {class}{}", spaced(reading))
@@ -86,6 +91,10 @@ impl Case {
             "read" => Ok(Case::Read(only(texts)?)),
             "syndrome" => Ok(Case::Syndrome(only(texts)?)),
             "correct" => Ok(Case::Correct(only(texts)?)),
+            "find" => Ok(Case::Find(only(texts)?)),
+            "apply" => {
+                first_and_rest(texts).and_then(|(word, rest)| Ok(Case::Apply(word, only(rest)?)))
+            }
             "read_bytes" => Ok(Case::ReadBytes(numbers(texts)?)),
             "soft" => Ok(Case::Soft(numbers(texts)?)),
             "quick" => Ok(Case::Quick(numbers(texts)?)),
@@ -118,6 +127,11 @@ impl Case {
                 code.correct(*word)
                     .map(|(codeword, distance)| format!("{codeword} {distance}")),
             ),
+            Case::Find(word) => line_of(
+                code.find(*word)
+                    .map(|(pattern, distance)| format!("{pattern} {distance}")),
+            ),
+            Case::Apply(word, pattern) => line_of(decoders::apply(*word, *pattern)),
             Case::ClassFigure(class, reading) => line_of(code.class_figure(*class, reading)),
             Case::ColumnFigure(class, column, reading) => {
                 line_of(decoders::column_figure(*class, *column, reading))

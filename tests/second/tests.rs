@@ -16,7 +16,7 @@ use crate::line::{cases_of, spaced, Case};
 use crate::readings::KINDS;
 use crate::samples::Sample;
 use crate::words::{any_word, damaged};
-use std::collections::HashSet;
+use std::collections::{HashMap, HashSet};
 use std::fs;
 
 fn code() -> Code {
@@ -76,7 +76,7 @@ fn worked_syndromes() {
 fn worked_ranges() {
     assert!(answer("encode 4095").starts_with("answered "));
     assert_eq!(answer("encode 4096"), "refused 3");
-    for call in ["read", "syndrome", "correct"] {
+    for call in ["read", "syndrome", "correct", "find"] {
         assert_eq!(answer(&format!("{call} {}", 0x1000000)), "refused 4");
     }
 }
@@ -100,6 +100,45 @@ fn worked_hard_cases() {
         answer(&format!("candidates {} 9 9 9 9 9 9", 0xF00000)),
         format!("answered |{six}")
     );
+}
+
+#[test]
+fn worked_correction_in_two() {
+    for (word, pattern, distance, applied) in [
+        (0x000000, 0x000000, 0, 0x000000),
+        (0x777770, 0x000008, 1, 0x777778),
+        (0xF00000, 0x00000F, 4, 0xF0000F),
+    ] {
+        assert_eq!(
+            answer(&format!("find {word}")),
+            format!("answered {pattern} {distance}")
+        );
+        assert_eq!(
+            answer(&format!("apply {word} {pattern}")),
+            format!("answered {applied}")
+        );
+    }
+    assert_eq!(answer(&format!("apply {} 0", 0x1000000)), "refused 4");
+    assert_eq!(answer(&format!("apply 0 {}", 0x1000000)), "refused 4");
+}
+
+/// By rule 5.2's own words: of all words, those with fewer ones first and the lesser first among
+/// equals, the first that has the syndrome.
+#[test]
+fn patterns_are_the_first_of_their_syndrome() {
+    let code = code();
+    let mut first = HashMap::new();
+    let mut words = patterns();
+    words.sort_by_key(|&word| (word.count_ones(), word));
+    for word in words {
+        first.entry(syndrome_of(word)).or_insert(word);
+    }
+    assert_eq!(first.len(), 4_096);
+    let chance = &mut Chance::from_seed(5);
+    for (_, pattern) in first {
+        let word = pattern ^ chance.pick(&code.codewords);
+        assert_eq!(code.find(word), Ok((pattern, pattern.count_ones())));
+    }
 }
 
 #[test]

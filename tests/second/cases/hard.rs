@@ -1,4 +1,4 @@
-//! The cases of correction and of the six candidates.
+//! The cases of correction, of the six candidates, and of correction in two: finding and applying.
 
 use super::{refusals, WORD_BOUNDS};
 use crate::chance::Chance;
@@ -11,8 +11,10 @@ const SLOT_COUNTS: [usize; 4] = [0, 5, 6, 7];
 
 const SEEDED_ROUNDS: usize = 1_000;
 const SEEDED_WORDS: usize = 100_000;
+const SEEDED_PAIRS: usize = 20_000;
 const REPRESENTATIVES: usize = 3;
 const FIXED_ROUNDS: usize = 25;
+const FIXED_PAIRS: usize = 100;
 const FIXED_PATTERNS_EACH: usize = 15;
 
 pub fn seeded(code: &Code, chance: &mut Chance) -> Vec<Case> {
@@ -29,6 +31,11 @@ pub fn seeded(code: &Code, chance: &mut Chance) -> Vec<Case> {
     }
     cases.extend((0..SEEDED_WORDS).map(|_| Case::Correct(any_word(chance))));
     cases.extend((0..SEEDED_ROUNDS).flat_map(|_| round(code, chance)));
+    cases.extend(boundaries_in_two());
+    for pattern in patterns() {
+        cases.extend((0..REPRESENTATIVES).flat_map(|_| in_two(pattern, code, chance)));
+    }
+    cases.extend((0..SEEDED_PAIRS).map(|_| any_pair(code, chance)));
     cases
 }
 
@@ -41,6 +48,11 @@ pub fn fixed(code: &Code, chance: &mut Chance) -> Vec<Case> {
     }
     cases.extend((0..FIXED_ROUNDS).flat_map(|_| round(code, chance)));
     cases.extend(refusals::cases(refusals::hard()));
+    cases.extend(boundaries_in_two());
+    for pattern in patterns().into_iter().step_by(3 * FIXED_PATTERNS_EACH) {
+        cases.extend(in_two(pattern, code, chance));
+    }
+    cases.extend((0..FIXED_PAIRS).map(|_| any_pair(code, chance)));
     cases
 }
 
@@ -70,6 +82,29 @@ fn boundaries(code: &Code) -> Vec<Case> {
         );
     }
     cases
+}
+
+/// Finding at the bounds of a word, and applying with each of them on either side.
+fn boundaries_in_two() -> Vec<Case> {
+    let mut cases: Vec<Case> = EXAMPLE_WORDS.map(Case::Find).to_vec();
+    for &word in &WORD_BOUNDS {
+        cases.push(Case::Find(word));
+        cases.extend(WORD_BOUNDS.map(|pattern| Case::Apply(word, pattern)));
+    }
+    cases
+}
+
+/// A word that has this pattern's syndrome: what finding says of it, and the pattern applied to it.
+fn in_two(pattern: u32, code: &Code, chance: &mut Chance) -> [Case; 2] {
+    let word = pattern ^ any_codeword(chance, code);
+    [Case::Find(word), Case::Apply(word, pattern)]
+}
+
+/// Two words of any sort, at times above the range.
+fn any_pair(code: &Code, chance: &mut Chance) -> Case {
+    let words = of_every_sort(chance, code);
+    let patterns = of_every_sort(chance, code);
+    Case::Apply(chance.pick(&words), chance.pick(&patterns))
 }
 
 /// All words of at most four ones, fewest first. Added to codewords they meet every syndrome, since

@@ -76,6 +76,19 @@ pub fn hard() -> Vec<Row> {
             [0, 1, 2, 3, 4, 5, 7, 24].map(|count| (1, Case::Candidates(word, vec![7; count]))),
         );
     }
+    rows.extend([
+        (0, Case::Find(CODEWORD)),
+        (0, Case::Find(AT_THREE)),
+        (0, Case::Find(AT_FOUR)),
+        (4, Case::Find(ABOVE)),
+        (4, Case::Find(ABOVE + AT_FOUR)),
+        (4, Case::Find(u32::MAX)),
+        (0, Case::Apply(CODEWORD, CODEWORD)),
+        (4, Case::Apply(ABOVE, NO_CODEWORD)),
+        (4, Case::Apply(NO_CODEWORD, ABOVE)),
+        (4, Case::Apply(ABOVE, ABOVE)),
+        (4, Case::Apply(u32::MAX, u32::MAX)),
+    ]);
     rows
 }
 
