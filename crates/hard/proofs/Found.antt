@@ -28,7 +28,7 @@ use Rattle.hard.specs.declared.kinds.Pattern.{Pattern}
 use Rattle.hard.specs.declared.kinds.FindAnswer.{FindAnswer}
 use Rattle.hard.specs.declared.kinds.FindAnswer.the-variants as find
 use Rattle.hard.specs.Answers.{Finding, findAnswer}
-use Rattle.hard.specs.Calls.{findRule, Finds}
+use Rattle.hard.specs.Calls.{Finds}
 use Rattle.hard.proofs.Rules.{find-above, find-within}
 
 pub record Within (word s : ℕ) : Type 0 where

@@ -1,12 +1,12 @@
 -- Correction in two (rules 5.10 and 5.11), of every answer that the promises allow: finding answers every word and never refuses with 7; its
 -- pattern, applied to the word, gives correction's codeword at distance 0 to 3, and at 4, where correction refuses, one of the nearest.
 -- Assumes nothing.
-use mathlib.Core.Path.{_≡_, refl, sym, ap, _∙_, subst}
+use mathlib.Core.Path.{_≡_, sym, ap, _∙_, subst}
 use Prim.Native.Nat.{ℕ, _≤_, _<_}
 use native.Mathlib.Omega.{arith}
 use lib.Bits.{bitXor}
 use Rattle.binary.specs.Words.{ones}
-use Rattle.code.specs.Code.{words, syndromeOf}
+use Rattle.code.specs.Code.{words}
 use Rattle.code.proofs.Syndromes.{syndrome-lt}
 use Rattle.golay.specs.Answers.{Answer, accepted, refused}
 use Rattle.patterns.specs.Nearest.{Nearest}
@@ -16,7 +16,7 @@ use Rattle.table.proofs.Entries.{pattern-ones}
 use Rattle.hard.specs.Answers.{Finding, Correction}
 use Rattle.hard.specs.Calls.{Finds, applyRule, correctRule, Corrects}
 use Rattle.hard.proofs.Rules.{find-within, apply-within, correct-four, correct-nearer}
-use Rattle.hard.proofs.Found.{Above, Found, finds-answer, finds-refusal}
+use Rattle.hard.proofs.Found.{Found, finds-answer, finds-refusal}
 
 -- Rule 5.10: a word is refused where it is above the range, and with 4 alone
 pub find-refusal : {word n : ℕ} → Finds word (refused n) → (n ≡ 4) × (words ≤ word)

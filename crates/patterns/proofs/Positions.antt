@@ -18,7 +18,6 @@ use borrow.Author.Tests.{eq-eqb, ne-eqb}
 use Rattle.binary.specs.Words.{ones}
 use Rattle.binary.proofs.Ones.{ones-zero}
 use Rattle.binary.proofs.Places.{Top, ones-top, le-or-lt}
-use Rattle.patterns.specs.Patterns.{IsPattern}
 use Rattle.patterns.specs.Positions.{none, worth, spread, count, InOrder, fields, held, Stored, AreStored}
 use Rattle.patterns.proofs.Patterns.{pattern-unique}
 
@@ -84,13 +83,13 @@ count-position : (p : ℕ) (ps : List ℕ) → (p ≡ none → ⊥) → count (p
 count-position p ps d = ap (λ b. cond b 0 1 + count ps) (ne-eqb p none d) ∙ omega arith
 
 -- Rule 5.9: as many positions as ones
-pub ones-counted : (before : ℕ) (ps : List ℕ) → InOrder before ps → ones 24 (spread ps) ≡ count ps
-ones-counted before [] o = ones-zero 24
-ones-counted before (p ∷ ps) o =
+pub positions-ones : (before : ℕ) (ps : List ℕ) → InOrder before ps → ones 24 (spread ps) ≡ count ps
+positions-ones before [] o = ones-zero 24
+positions-ones before (p ∷ ps) o =
     ⊎-elim
     (λ n.
     ones-top (highest before p ps (n .0) (n .1) (o .1))
-    ∙ ap suc (ones-counted p ps (o .1))
+    ∙ ap suc (positions-ones p ps (o .1))
     ∙ sym (count-position p ps (λ e. omega (arith, n .1))))
     (λ e. ap (ones 24) (nothing-spread p ps e (o .1)) ∙ ones-zero 24 ∙ sym (nothing-counted p ps e (o .1)))
     (o .0)
@@ -245,15 +244,22 @@ stored-once {s} {x} {y} p q =
 
 -- the distance: as many are held as the pattern has ones
 pub stored-ones : {s entry : ℕ} → Stored s entry → ones 24 (spread (fields 4 entry)) ≡ held 4 entry
-stored-ones {s} {entry} p = ones-counted 0 (fields 4 entry) (p .order) ∙ sym (held-count 0 4 entry (p .order))
+stored-ones {s} {entry} p = positions-ones 0 (fields 4 entry) (p .order) ∙ sym (held-count 0 4 entry (p .order))
 
 -- Rule 15.8: each part of a table of stored patterns is such a table
 pub part-stored :
-    {count : ℕ} {lows highs : List ℕ} → AreStored 0 count lows highs → (skip n : ℕ) → (skip + n) * 4 ≤ count → AreStored (skip * 4) (n * 4) (take n (drop skip lows)) (take n (drop skip highs))
+    {count : ℕ} {lows highs : List ℕ}
+    → AreStored 0 count lows highs
+    → (skip n : ℕ)
+    → (skip + n) * 4 ≤ count
+    → AreStored (skip * 4) (n * 4) (take n (drop skip lows)) (take n (drop skip highs))
 part-stored {count} {lows} {highs} t skip n h = record {
   each = λ k g.
       let place : k / 4 < n = omega arith in
-      let same : (0 + (skip * 4 + k) ≡ skip * 4 + k) × (((skip * 4 + k) / 4 ≡ skip + k / 4) × ((skip * 4 + k) % 4 ≡ k % 4)) = (omega arith, (omega arith, omega arith)) in
-      rw (getD-take n (drop skip lows) (k / 4) 0 place, getD-drop skip lows (k / 4) 0, getD-take n (drop skip highs) (k / 4) 0 place, getD-drop skip highs (k / 4) 0)
-      (rw (same .0, same .1 .0, same .1 .1) at (t .each (skip * 4 + k) (omega arith)));
+      let syndrome : 0 + (skip * 4 + k) ≡ skip * 4 + k = omega arith in
+      let number : (skip * 4 + k) / 4 ≡ skip + k / 4 = omega arith in
+      let entry : (skip * 4 + k) % 4 ≡ k % 4 = omega arith in
+      rw (getD-take n (drop skip lows) (k / 4) 0 place, getD-drop skip lows (k / 4) 0)
+      (rw (getD-take n (drop skip highs) (k / 4) 0 place, getD-drop skip highs (k / 4) 0)
+      (rw (syndrome, number, entry) at (t .each (skip * 4 + k) (omega arith))));
 }

@@ -17,7 +17,7 @@ none = 31
 abbrev pub worth : ℕ → ℕ
 worth position = words / 2 ^ position
 
--- Rule 5.9: the word that has its ones at these positions
+-- Rule 5.9: the word that has its ones at these positions: what they count, added up
 abbrev pub spread : List ℕ → ℕ
 spread [] = 0
 spread (p ∷ ps) = worth p + spread ps
@@ -37,7 +37,7 @@ abbrev pub fields : ℕ → ℕ → List ℕ
 fields zero entry = []
 fields (suc n) entry = entry / 32 ^ n % 32 ∷ fields n entry
 
--- how many of the n lowest fields of a number are left where those at their end that hold none are taken off
+-- how many of the n lowest fields of a number stand before those at the end that hold none
 abbrev pub held : ℕ → ℕ → ℕ
 held zero entry = 0
 held (suc n) entry = cond (eqb (entry % 32) none) (held n (entry / 32)) (suc n)

@@ -23,8 +23,8 @@ pub fn spread(entry: u32) -> u32
         + worth(entry % 32)
 }
 
-// How many of the lowest four fields of an entry are left where those at their end that hold none are taken off: in a stored pattern these are
-// its positions, and as many as its ones.
+// How many of the lowest four fields of an entry stand before those at the end that hold none: in a stored pattern its positions, which are as
+// many as its ones.
 pub fn held(entry: u32) -> u32
     ensures { λ r. ⌜ r ≡ positions.held 4 entry ⌝ }
 {

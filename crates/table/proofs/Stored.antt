@@ -1,7 +1,7 @@
 -- Rules 5.9 and 15.8: the stored table is the table of patterns, at every syndrome. A computed test over all of it: each entry has 20 bits, its
 -- fields are in order, and the word that they make is the pattern that stands at the syndrome in `table`.
 -- Assumes nothing.
-use mathlib.Core.Path.{_≡_, sym, ap₂, _∙_, subst}
+use mathlib.Core.Path.{_≡_, sym, ap₂, subst}
 use mathlib.Core.Logic.{_⊎_, inl, inr}
 use mathlib.Core.Bool.{Bool, true, false, _&&_, _||_}
 use mathlib.Core.List.{List, [], _∷_}
