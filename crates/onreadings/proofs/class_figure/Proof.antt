@@ -1,0 +1,56 @@
+-- `onreadings::class_figure` meets its contract, by that of `soft::class_figure`.
+-- Assumes nothing.
+use mathlib.Core.Path.{ap, sym, _∙_}
+use borrow.Author.Needs.{needs}
+use mir.Syntax.{w64}
+use mir.Val.{SFits}
+use mir.Facts.{toZ-ofZ}
+use Rattle.golay.specs.Answers.{refused}
+use Rattle.soft.specs.Answers.{classFigureAnswer}
+use Rattle.hands.proofs.Hands.{hands-value, hands-refusal}
+use Rattle.onreadings.proofs.class_figure.Statement.{statement}
+use Rattle.onreadings.proofs.class_figure.Tie as tie
+
+class-figure-requires : tie.Need-class-figure-requires
+class-figure-requires c κs = search needs
+
+enum-known-f : tie.Need-enum-known-f
+enum-known-f c = search needs
+
+enum-known-reason : tie.Need-enum-known-reason
+enum-known-reason c = search needs
+
+refusal-number-requires : tie.Need-refusal-number-requires
+refusal-number-requires c κs = search needs
+
+returns : tie.Need-returns
+returns c =
+    let matched = c .before in
+    let called = matched .before .before .class-figure in
+    let f : SFits w64 (matched .f .given .0 .0) = search needs in
+    record {
+      answer = classFigureAnswer (called .result);
+      allowed = called .ensures;
+      handed = rw (toZ-ofZ f) (hands-value (ap classFigureAnswer (sym (matched .f .given .1))));
+    }
+
+returns-2 : tie.Need-returns-2
+returns-2 c =
+    let matched = c .before .before in
+    let called = matched .before .before .class-figure in
+    record {
+      answer = classFigureAnswer (called .result);
+      allowed = called .ensures;
+      handed = hands-refusal (ap refused (c .refusal-number .ensures) ∙ ap classFigureAnswer (sym (matched .reason .given .1)));
+    }
+
+pub class-figure-spec : {M : Type 1} → statement M
+class-figure-spec =
+    tie.close
+    (tie.spec
+    class-figure-requires
+    enum-known-f
+    enum-known-reason
+    refusal-number-requires
+    returns
+    returns-2)
