@@ -10,7 +10,7 @@ number WrongLength = 1
 number MostNegative = 2
 -- a message exceeds 4,095
 number MessageAbove = 3
--- a word exceeds 16,777,215
+-- a word, or a pattern to be applied, exceeds 16,777,215
 number WordAbove = 4
 -- a word of 24 bits that is to be read, or to be written as bytes, is no codeword
 number NotCodeword = 5

@@ -1,4 +1,4 @@
-// The three kinds of rule 11.6, the reasons for which a call refuses, and the answer of each call.
+// Three of the kinds of rule 11.6, the reasons for which a call refuses, and the answer of each call.
 
 // A message, 0 to 4,095; a codeword, below 2^24; a syndrome, below 2^12. None is trusted to be in its range: each call checks its number.
 pub struct Message(pub u32);

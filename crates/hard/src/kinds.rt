@@ -2,7 +2,7 @@
 use golay::kinds::Codeword;
 use golay::kinds::Refusal;
 
-// An error pattern, below 2^24. It is not trusted to be: a call that takes one checks its number.
+// An error pattern, below 2^24: the fourth kind of rule 11.6. It is not trusted to be in its range: a call that takes one checks its number.
 pub struct Pattern(pub u32);
 
 // The pattern of the word's syndrome, and how many ones it has: the word's distance from the code.
