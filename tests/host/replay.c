@@ -119,25 +119,20 @@ static void replay_read_bytes(const struct given *given)
         print_number(*codeword);
 }
 
-static void replay_correct(const struct given *given)
+/* A call that has a number with this name of a word, and its distance. */
+static void replay_with_distance(uint8_t (*call)(uint32_t, uint32_t *, uint32_t *), const char *name, const struct given *given)
 {
-    uint32_t *codeword = lend_output("codeword", sizeof *codeword);
+    uint32_t *number = lend_output(name, sizeof *number);
     uint32_t *distance = lend_output("distance", sizeof *distance);
-    if (settle(garthumor_correct(given->head[0], codeword, distance)) != ANSWERED)
+    if (settle(call(given->head[0], number, distance)) != ANSWERED)
         return;
-    print_number(*codeword);
+    print_number(*number);
     print_number(*distance);
 }
 
-static void replay_find(const struct given *given)
-{
-    uint32_t *pattern = lend_output("pattern", sizeof *pattern);
-    uint32_t *distance = lend_output("distance", sizeof *distance);
-    if (settle(garthumor_find(given->head[0], pattern, distance)) != ANSWERED)
-        return;
-    print_number(*pattern);
-    print_number(*distance);
-}
+static void replay_correct(const struct given *given) { replay_with_distance(garthumor_correct, "codeword", given); }
+
+static void replay_find(const struct given *given) { replay_with_distance(garthumor_find, "pattern", given); }
 
 static void replay_apply(const struct given *given)
 {

@@ -8,7 +8,7 @@ use lib.ListN.{length}
 use Rattle.code.specs.Code.{words, syndromeOf}
 use Rattle.golay.specs.Answers.{accepted, refused}
 use Rattle.patterns.specs.Patterns.{IsPattern}
-use Rattle.hard.proofs.Found.{Above, Found, entry, entry-rule}
+use Rattle.hard.proofs.Found.{Above, Found, patternFor, patternFor-rule}
 use Rattle.candidates.specs.Candidates.{Candidates, AtFour}
 use Rattle.candidates.specs.Calls.{WritesCandidates}
 use Rattle.candidates.proofs.Rules.{candidates-length, candidates-above, candidates-other, candidates-four}
@@ -26,18 +26,18 @@ at-four {word} {p = p} f e four =
 
 pub writes-length : (word : ℕ) (slots : List ℕ) → (length slots ≡ 6 → ⊥) → WritesCandidates word slots (refused 1) slots
 writes-length word slots l = record {
-  pattern = entry word;
-  rule = entry-rule word;
-  answered = sym (candidates-length word (entry word) slots l);
+  pattern = patternFor word;
+  rule = patternFor-rule word;
+  answered = sym (candidates-length word (patternFor word) slots l);
   slots = refl;
 }
 
 module _ (slots : List ℕ) (l : length slots ≡ 6) where
   pub writes-above : {word n : ℕ} → Above word n → WritesCandidates word slots (refused n) slots
   writes-above {word} a = record {
-    pattern = entry word;
-    rule = entry-rule word;
-    answered = ap refused (a .number) ∙ sym (candidates-above word (entry word) slots l (a .high));
+    pattern = patternFor word;
+    rule = patternFor-rule word;
+    answered = ap refused (a .number) ∙ sym (candidates-above word (patternFor word) slots l (a .high));
     slots = refl;
   }
 

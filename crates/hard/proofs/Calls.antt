@@ -12,20 +12,20 @@ use Rattle.hard.specs.declared.kinds.ApplyAnswer.the-variants as apply
 use Rattle.hard.specs.Answers.{applyAnswer}
 use Rattle.hard.specs.Calls.{Finds, applyRule, Corrects}
 use Rattle.hard.proofs.Rules.{find-above, find-within, apply-within, correct-above, correct-four, correct-nearer}
-use Rattle.hard.proofs.Found.{Above, Found, entry, entry-rule}
+use Rattle.hard.proofs.Found.{Above, Found, patternFor, patternFor-rule}
 
 pub finds-above : {word n : ℕ} → Above word n → Finds word (refused n)
 finds-above {word} a = record {
-  pattern = entry word;
-  rule = entry-rule word;
-  answered = ap refused (a .number) ∙ sym (find-above word (entry word) (a .high));
+  pattern = patternFor word;
+  rule = patternFor-rule word;
+  answered = ap refused (a .number) ∙ sym (find-above word (patternFor word) (a .high));
 }
 
 pub corrects-above : {word n : ℕ} → Above word n → Corrects word (refused n)
 corrects-above {word} a = record {
-  pattern = entry word;
-  rule = entry-rule word;
-  answered = ap refused (a .number) ∙ sym (correct-above word (entry word) (a .high));
+  pattern = patternFor word;
+  rule = patternFor-rule word;
+  answered = ap refused (a .number) ∙ sym (correct-above word (patternFor word) (a .high));
 }
 
 module _ {word p n : ℕ} (f : Found word p n) where

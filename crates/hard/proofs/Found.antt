@@ -100,9 +100,9 @@ module _ {word : ℕ} where
 
 -- any word's syndrome has a pattern, also where the word is above the range
 module _ (word : ℕ) where
-  pub entry : ℕ
-  entry = getD table (syndromeOf word) 0
+  pub patternFor : ℕ
+  patternFor = getD table (syndromeOf word) 0
 
-  pub entry-rule : IsPattern (syndromeOf word) entry
-  unfolding entry
-  entry-rule = table-pattern (syndromeOf word) (syndrome-lt word)
+  pub patternFor-rule : IsPattern (syndromeOf word) patternFor
+  unfolding patternFor
+  patternFor-rule = table-pattern (syndromeOf word) (syndrome-lt word)

@@ -19,8 +19,8 @@ use Rattle.hard.proofs.Rules.{find-within, apply-within, correct-four, 
 use Rattle.hard.proofs.Found.{Found, finds-answer, finds-refusal}
 
 -- Rule 5.10: a word is refused where it is above the range, and with 4 alone
-pub find-refusal : {word n : ℕ} → Finds word (refused n) → (n ≡ 4) × (words ≤ word)
-find-refusal f = let a = finds-refusal f in (a .number, a .high)
+pub find-refuses-four : {word n : ℕ} → Finds word (refused n) → (n ≡ 4) × (words ≤ word)
+find-refuses-four f = let a = finds-refusal f in (a .number, a .high)
 
 pub find-answers : {word : ℕ} {answer : Answer Finding} → word < words → Finds word answer → (x : Finding) × (answer ≡ accepted x)
 find-answers {word} h f = (record { pattern = f .pattern; distance = ones 24 (f .pattern) }, f .answered ∙ find-within word (f .pattern) h)
