@@ -14,6 +14,7 @@
  *                as a number; its ones are the word's distance from the code (5.2 to 5.4)
  *   reading      24 confidences, position 1 first, each -2,147,483,647 to 2,147,483,647: positive
  *                speaks for bit 0, negative for bit 1, and its size is how strongly (6.1 to 6.3)
+ *   buffer       of a receiver: readings one after the other, numbered from 0 (17.1)
  *   correlation  how strongly a reading speaks for a codeword: the confidences where it has a 0,
  *                less those where it has a 1; at most 51,539,607,528 (6.4, 6.5)
  *   reserve      how much change of the reading an answer bears, 1 to 17,179,869,176 (7.2). How far
@@ -33,7 +34,8 @@
  *
  * Each call returns 0 where it answers, else the number of a refusal, and writes its outputs only
  * where it answers: a refusal leaves every output and every lent byte as it was. Where several
- * refusals apply, the first that a call lists is the one that it gives (11.2 to 11.5).
+ * refusals apply, the first that a call lists is the one that it gives (11.2 to 11.5). One call,
+ * garthumor_better, refuses nothing and returns its answer.
  *
  * The caller keeps: pointers are valid, not null and aligned, a length is how many stand behind its
  * pointer, and no two arguments overlap.
@@ -48,9 +50,9 @@
 #include <stdint.h>
 
 /* The first number changes where a program that uses the library may have to change with it. */
-#define GARTHUMOR_VERSION "1.2.0"
+#define GARTHUMOR_VERSION "1.3.0"
 #define GARTHUMOR_VERSION_MAJOR 1
-#define GARTHUMOR_VERSION_MINOR 2
+#define GARTHUMOR_VERSION_MINOR 3
 #define GARTHUMOR_VERSION_PATCH 0
 
 /* What a call returns (11.1). 9 and 10 are missing: they tell how a capture stops, and no call here
@@ -66,6 +68,11 @@
 #define GARTHUMOR_NOT_DISTANCE_FOUR 8  /* nearer to the code than 4, so no six candidates */
 #define GARTHUMOR_CLASS_ABOVE 11       /* above 127 */
 #define GARTHUMOR_NO_COLUMN 18         /* not 1 to 6 */
+
+/* What garthumor_better returns (17.4). */
+#define GARTHUMOR_NEITHER 0
+#define GARTHUMOR_FIRST 1
+#define GARTHUMOR_SECOND 2
 
 #ifdef __cplusplus
 extern "C" {
@@ -86,6 +93,19 @@ uint8_t garthumor_class_figure(const int32_t *reading, size_t length, uint32_t c
 
 /* The figure of a column in a class, with its sign (8.3). Refuses 1, 2, 11, 18. */
 uint8_t garthumor_column_figure(const int32_t *reading, size_t length, uint32_t class_number, uint32_t column, int64_t *figure);
+
+/* ---- two receivers */
+
+/* Which of two receivers has the better reading with a number: the one that soft accepts with the
+ * larger reserve, the first one's where they are equal, or the only one that soft accepts (17.3).
+ * Returns 1 for the first receiver, 2 for the second; 0 for neither: soft refuses both readings,
+ * a length is no multiple of 24, or a buffer has no reading with this number. The reading begins at
+ * 24 times the number:
+ *
+ *   uint8_t receiver = garthumor_better(first, n, second, m, number);
+ *   if (receiver != GARTHUMOR_NEITHER)
+ *       take((receiver == GARTHUMOR_FIRST ? first : second) + 24 * number); */
+uint8_t garthumor_better(const int32_t *first, size_t first_length, const int32_t *second, size_t second_length, size_t number);
 
 /* ---- the code */
 

@@ -51,6 +51,8 @@ static uint8_t class_figure(int r) { return garthumor_class_figure(readings[r], 
 static uint8_t column_figure(int r) { return garthumor_column_figure(readings[r], POSITIONS, numbers[r] % CLASSES, columns[r], &wide); }
 static uint8_t soft(int r) { return garthumor_soft(readings[r], POSITIONS, &one, &other, &wide, &more); }
 static uint8_t quick(int r) { return garthumor_quick(readings[r], POSITIONS, &one); }
+/* Two receivers' buffers: all readings but the last, and all but the first. */
+static uint8_t better(int r) { return garthumor_better(readings[0], (READINGS - 1) * POSITIONS, readings[1], (READINGS - 1) * POSITIONS, r % (READINGS - 1)); }
 static uint8_t write_bytes(int r) { return garthumor_write_bytes(codewords[r], bytes, WORD_BYTES); }
 static uint8_t read_bytes(int r) { return (void)r, garthumor_read_bytes(bytes, WORD_BYTES, &one); }
 static uint8_t field(int r) { return (uint8_t)field_decode(readings[r]); }
@@ -76,6 +78,7 @@ static const struct call calls[] = {
     { "column_figure", column_figure, 1 },
     { "soft", soft, 1 },
     { "quick", quick, 1 },
+    { "better", better, 1 },
     { "write_bytes", write_bytes, 1 },
     { "read_bytes", read_bytes, 1 },
     { "field", field, 0 },

@@ -1,12 +1,12 @@
-/* Random calls of all thirteen entry points, with arguments that favour the edges and guard bytes around
+/* Random calls of all fourteen entry points, with arguments that favour the edges and guard bytes around
  * every buffer. After each call: the guards hold, inputs are as they were, a refusal left every
  * output alone and has the number that the rules of docs/RULES.md ask for, and an answer is the one
  * that they ask for. What they ask for is found here, with no help of the library. Only where that
  * takes all 4,096 codewords, to tell the largest correlation and a tie, one call in a few is looked
- * into, and the others keep what a few additions can tell. At the end each call has answered, and
- * has given each refusal that it lists.
+ * into, and the others keep what a few additions can tell. At the end each call has returned every
+ * number that it lists.
  *
- *   random SEED CALLS     (below some ten thousand a refusal may not come up) */
+ *   random SEED CALLS     (below some ten thousand a number may not come up) */
 #include "garthumor.h"
 #include "inputs.h"
 #include "lent.h"
@@ -18,6 +18,7 @@
 enum { WORD_BYTES = 3, SLOTS = 6, LONGEST_SHORT = 25, LONG = 1 << 20, SHOWN = 10 };
 enum { MESSAGE_BITS = 12, MESSAGES = 1 << MESSAGE_BITS, WORDS = 1 << POSITIONS, COLUMNS = 6 };
 enum { CLASSES = 128, CLASS_SIZE = 32 };
+enum { MOST_READINGS = 3, LONGEST_BUFFER = MOST_READINGS * POSITIONS + 1 };
 
 /* No word is farther from the code; two codewords are not nearer to each other. */
 enum { FARTHEST = 4, LEAST_BETWEEN = 8 };
@@ -26,13 +27,13 @@ enum { FARTHEST = 4, LEAST_BETWEEN = 8 };
  * seconds, and not minutes under an emulator. */
 enum { LOOKED_INTO = 16 };
 
-/* One call in so many, at the least, is an answer of each entry point. */
+/* One call in so many, at the least, is an answer of each entry point, or neither receiver. */
 enum { LEAST_ANSWERED = 200 };
 
 static const int64_t MOST_RESERVE = 17179869176;
 
-/* What a call gave and what is asked for: 0 or the number of a refusal; and what is wrong with the
- * answer, or NULL. */
+/* What a call gave and what is asked for: 0 or the number of a refusal, or a choice; and what is
+ * wrong with the answer, or NULL. */
 struct outcome {
     uint8_t given, asked;
     const char *wrong;
@@ -159,18 +160,51 @@ static void speak_for(uint32_t codeword, int32_t *reading)
             reading[i] = -reading[i];
 }
 
-static const int32_t *lend_reading(size_t length)
+static void some_reading(int32_t *reading)
 {
     static const int32_t extremes[] = { INT32_MIN, -INT32_MAX, -1, 0, 1, INT32_MAX };
-    int32_t reading[LONGEST_SHORT] = { 0 };
-    if (length > LONGEST_SHORT)
-        return lend(INPUT, "reading", contents, length * sizeof *reading);
     fill_reading(reading, (enum kind)(chance() % KINDS), some_codeword());
     if (chance() % 8 == 0)
         speak_for(some_codeword(), reading);
     if (chance() % 8 == 0)
         reading[chance() % POSITIONS] = extremes[chance() % (sizeof extremes / sizeof extremes[0])];
+}
+
+static const int32_t *lend_reading(size_t length)
+{
+    int32_t reading[LONGEST_SHORT] = { 0 };
+    if (length > LONGEST_SHORT)
+        return lend(INPUT, "reading", contents, length * sizeof *reading);
+    some_reading(reading);
     return lend(INPUT, "reading", reading, length * sizeof *reading);
+}
+
+/* One reading in four is the other receiver's, negated where a codeword has a 1: with its reserve. */
+static void some_readings(int32_t *buffer, const int32_t *other)
+{
+    for (int i = 0; i < MOST_READINGS * POSITIONS; i += POSITIONS) {
+        uint32_t codeword = some_codeword();
+        some_reading(buffer + i);
+        if (chance() % 4 == 0)
+            for (int place = 0; place < POSITIONS; place++)
+                buffer[i + place] = codeword >> (23 - place) & 1 && other[i + place] != INT32_MIN ? -other[i + place] : other[i + place];
+    }
+}
+
+/* Whole readings, or one confidence more or less. */
+static size_t some_buffer_length(void)
+{
+    size_t length = chance() % (MOST_READINGS + 1) * POSITIONS;
+    uint32_t sort = chance() % 16;
+    return sort == 0 ? length + 1 : sort == 1 && length > 0 ? length - 1 : length;
+}
+
+/* Mostly that of a reading; or one that 24 times makes small again in 64 bits, or anything. */
+static size_t some_reading_number(void)
+{
+    size_t number = chance() % (MOST_READINGS + 2);
+    uint32_t sort = chance() % 16;
+    return sort == 0 ? SIZE_MAX - number : sort == 1 ? ((size_t)1 << 61) + number : sort == 2 ? (size_t)chance() << 32 | number : number;
 }
 
 /* ---- facts */
@@ -326,6 +360,32 @@ static uint8_t asked_of_top(struct top top) { return top.first == top.second ? 6
 
 /* Where nobody looks at every codeword 6 is believed. */
 static uint8_t asked_unseen(uint8_t given) { return given == 6 ? 6 : 0; }
+
+static int has_reading(size_t length, size_t number) { return length % POSITIONS == 0 && number < length / POSITIONS; }
+
+/* Twice the reserve of a reading; 0 where it is refused. */
+static int64_t lead_of(const int32_t *reading)
+{
+    if (asked_of_reading(reading, POSITIONS) != 0)
+        return 0;
+    struct top top = soft_top(reading);
+    return top.first - top.second;
+}
+
+static uint8_t asked_of_leads(int64_t one, int64_t other) { return one == 0 && other == 0 ? 0 : one >= other ? 1 : 2; }
+
+/* Where nobody looks at every codeword a choice is believed that chooses no reading with a confidence
+ * out of range, and chooses one where the signs alone show that there is one to choose. */
+static uint8_t choice_unseen(uint8_t given, const int32_t *one, const int32_t *other)
+{
+    int one_valid = asked_of_reading(one, POSITIONS) == 0, other_valid = asked_of_reading(other, POSITIONS) == 0;
+    int one_clear = one_valid && one_best_by_signs(one), other_clear = other_valid && one_best_by_signs(other);
+    if ((given == 1 && !one_valid) || (given == 0 && other_clear))
+        return 2;
+    if ((given == 2 && !other_valid) || (given == 0 && one_clear))
+        return 1;
+    return given <= 2 ? given : 0;
+}
 
 /* ---- the calls */
 
@@ -487,6 +547,22 @@ static struct outcome try_quick(void)
     return judged(given, asked_unseen(given), fact, "no candidate");
 }
 
+static struct outcome try_better(void)
+{
+    int32_t readings[2][LONGEST_BUFFER] = { { 0 } };
+    size_t first_length = some_buffer_length(), second_length = some_buffer_length(), number = some_reading_number();
+    some_readings(readings[0], readings[1]);
+    some_readings(readings[1], readings[0]);
+    const int32_t *first = lend(INPUT, "first", readings[0], first_length * sizeof *first);
+    const int32_t *second = lend(INPUT, "second", readings[1], second_length * sizeof *second);
+    uint8_t asked = 0, given = garthumor_better(first, first_length, second, second_length, number);
+    if (has_reading(first_length, number) && has_reading(second_length, number)) {
+        const int32_t *one = first + POSITIONS * number, *other = second + POSITIONS * number;
+        asked = looked_into() ? asked_of_leads(lead_of(one), lead_of(other)) : choice_unseen(given, one, other);
+    }
+    return judged(given, asked, 1, NULL);
+}
+
 static struct outcome try_write_bytes(void)
 {
     uint32_t word = some_word();
@@ -513,7 +589,7 @@ static struct outcome try_read_bytes(void)
 static const struct {
     const char *name;
     struct outcome (*run)(void);
-    uint8_t refusals[5]; /* those that include/garthumor.h lists, and 0 */
+    uint8_t numbers[5]; /* those that include/garthumor.h lists beside 0, and 0 */
 } calls[] = {
     { "encode", try_encode, { 3 } },
     { "read", try_read, { 4, 5 } },
@@ -526,13 +602,14 @@ static const struct {
     { "column_figure", try_column_figure, { 1, 2, 11, 18 } },
     { "soft", try_soft, { 1, 2, 6 } },
     { "quick", try_quick, { 1, 2, 6 } },
+    { "better", try_better, { 1, 2 } },
     { "write_bytes", try_write_bytes, { 1, 4, 5 } },
     { "read_bytes", try_read_bytes, { 1, 5 } },
 };
 
 enum { CALLS = sizeof calls / sizeof calls[0] };
 
-/* How often each call gave each number, 0 for an answer. */
+/* How often each call gave each number. */
 static unsigned long given_often[CALLS][UINT8_MAX + 1];
 
 /* One random call; prints what is wrong, and tells whether something is. */
@@ -554,16 +631,16 @@ static int one_call(unsigned long number, int shown)
     return wrong != NULL;
 }
 
-/* Prints how often a call gave each of its numbers, and tells whether that shows little: hardly an
- * answer, or a refusal that never came. */
+/* Prints how often a call gave each of its numbers, and tells whether that shows little: hardly a 0,
+ * or a number that never came. */
 static int shows_little(size_t which, unsigned long count)
 {
     const unsigned long *often = given_often[which];
     int little = often[0] == 0 || often[0] < count / LEAST_ANSWERED;
-    printf("%-13s answered %lu, refused", calls[which].name, often[0]);
-    for (const uint8_t *refusal = calls[which].refusals; *refusal != 0; refusal++) {
-        printf(" %u: %lu", (unsigned)*refusal, often[*refusal]);
-        little |= often[*refusal] == 0;
+    printf("%-13s gave 0: %lu", calls[which].name, often[0]);
+    for (const uint8_t *number = calls[which].numbers; *number != 0; number++) {
+        printf(", %u: %lu", (unsigned)*number, often[*number]);
+        little |= often[*number] == 0;
     }
     printf("%s\n", little ? ", which shows little" : "");
     return little;

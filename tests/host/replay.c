@@ -16,20 +16,23 @@
 #include <stdlib.h>
 #include <string.h>
 
-enum { MOST_HEADS = 2, MOST_NUMBERS = 64, LINE_BYTES = 1024 };
+enum { MOST_HEADS = 2, MOST_NUMBERS = 256, LINE_BYTES = 4096 };
 
 enum outcome { ANSWERED, REFUSED, BROKEN };
 
-/* A case: the message, words, pattern, class or column that the call has, and the numbers after them. */
+/* A case: the message, words, pattern, class, column, reading's number or length that the call has,
+ * and the numbers after them. */
 struct given {
-    uint32_t head[MOST_HEADS];
+    uint64_t head[MOST_HEADS];
     int64_t numbers[MOST_NUMBERS];
     size_t count;
 };
 
 struct call {
     const char *name;
-    size_t heads, most_numbers;
+    size_t heads;
+    uint64_t most_head;
+    size_t most_numbers;
     int64_t least, most;
     void (*replay)(const struct given *given);
 };
@@ -154,12 +157,17 @@ static void replay_candidates(const struct given *given)
         print_number(slots[i]);
 }
 
-static const int32_t *lend_reading(const struct given *given)
+static const int32_t *lend_confidences(const char *name, const int64_t *numbers, size_t count)
 {
     int32_t confidences[MOST_NUMBERS];
-    for (size_t i = 0; i < given->count; i++)
-        confidences[i] = (int32_t)given->numbers[i];
-    return lend(INPUT, "reading", confidences, given->count * sizeof *confidences);
+    for (size_t i = 0; i < count; i++)
+        confidences[i] = (int32_t)numbers[i];
+    return lend(INPUT, name, confidences, count * sizeof *confidences);
+}
+
+static const int32_t *lend_reading(const struct given *given)
+{
+    return lend_confidences("reading", given->numbers, given->count);
 }
 
 static void print_wide_number(int64_t number)
@@ -209,21 +217,35 @@ static void replay_quick(const struct given *given)
         print_number(*codeword);
 }
 
+/* The first one's buffer is as long as the second head says; the rest is the other's. */
+static void replay_better(const struct given *given)
+{
+    size_t length = given->head[1];
+    if (length > given->count)
+        fail("too few confidences after ", "better");
+    const int32_t *first = lend_confidences("first", given->numbers, length);
+    const int32_t *second = lend_confidences("second", given->numbers + length, given->count - length);
+    uint8_t choice = garthumor_better(first, length, second, given->count - length, given->head[0]);
+    if (settle(GARTHUMOR_ANSWERED) == ANSWERED)
+        print_number(choice);
+}
+
 static const struct call calls[] = {
-    { "encode", 1, 0, 0, 0, replay_encode },
-    { "read", 1, 0, 0, 0, replay_read },
-    { "syndrome", 1, 0, 0, 0, replay_syndrome },
-    { "distance", 2, 0, 0, 0, replay_distance },
-    { "write_bytes", 1, MOST_NUMBERS - 1, 0, UINT8_MAX, replay_write_bytes },
-    { "read_bytes", 0, MOST_NUMBERS, 0, UINT8_MAX, replay_read_bytes },
-    { "correct", 1, 0, 0, 0, replay_correct },
-    { "find", 1, 0, 0, 0, replay_find },
-    { "apply", 2, 0, 0, 0, replay_apply },
-    { "candidates", 1, MOST_NUMBERS - 1, 0, UINT32_MAX, replay_candidates },
-    { "class_figure", 1, MOST_NUMBERS - 1, INT32_MIN, INT32_MAX, replay_class_figure },
-    { "column_figure", 2, MOST_NUMBERS - 2, INT32_MIN, INT32_MAX, replay_column_figure },
-    { "soft", 0, MOST_NUMBERS, INT32_MIN, INT32_MAX, replay_soft },
-    { "quick", 0, MOST_NUMBERS, INT32_MIN, INT32_MAX, replay_quick },
+    { "encode", 1, UINT32_MAX, 0, 0, 0, replay_encode },
+    { "read", 1, UINT32_MAX, 0, 0, 0, replay_read },
+    { "syndrome", 1, UINT32_MAX, 0, 0, 0, replay_syndrome },
+    { "distance", 2, UINT32_MAX, 0, 0, 0, replay_distance },
+    { "write_bytes", 1, UINT32_MAX, MOST_NUMBERS, 0, UINT8_MAX, replay_write_bytes },
+    { "read_bytes", 0, 0, MOST_NUMBERS, 0, UINT8_MAX, replay_read_bytes },
+    { "correct", 1, UINT32_MAX, 0, 0, 0, replay_correct },
+    { "find", 1, UINT32_MAX, 0, 0, 0, replay_find },
+    { "apply", 2, UINT32_MAX, 0, 0, 0, replay_apply },
+    { "candidates", 1, UINT32_MAX, MOST_NUMBERS, 0, UINT32_MAX, replay_candidates },
+    { "class_figure", 1, UINT32_MAX, MOST_NUMBERS, INT32_MIN, INT32_MAX, replay_class_figure },
+    { "column_figure", 2, UINT32_MAX, MOST_NUMBERS, INT32_MIN, INT32_MAX, replay_column_figure },
+    { "soft", 0, 0, MOST_NUMBERS, INT32_MIN, INT32_MAX, replay_soft },
+    { "quick", 0, 0, MOST_NUMBERS, INT32_MIN, INT32_MAX, replay_quick },
+    { "better", 2, UINT64_MAX, MOST_NUMBERS, INT32_MIN, INT32_MAX, replay_better },
 };
 
 static const struct call *call_named(const char *name)
@@ -259,6 +281,16 @@ static int64_t number_of(const char *word, int64_t least, int64_t most)
     return number;
 }
 
+static uint64_t head_of(const char *word, uint64_t most)
+{
+    char printed[32];
+    uint64_t number = strtoull(word, NULL, 10);
+    snprintf(printed, sizeof printed, "%" PRIu64, number);
+    if (strcmp(printed, word) != 0 || number > most)
+        fail("no number in the range of its place: ", word);
+    return number;
+}
+
 static void read_numbers(const struct call *call, char *rest, struct given *given)
 {
     char *word;
@@ -267,7 +299,7 @@ static void read_numbers(const struct call *call, char *rest, struct given *give
         word = next_word(&rest);
         if (word == NULL)
             fail("a number is missing after ", call->name);
-        given->head[i] = (uint32_t)number_of(word, 0, UINT32_MAX);
+        given->head[i] = head_of(word, call->most_head);
     }
     while ((word = next_word(&rest)) != NULL) {
         if (given->count == call->most_numbers)

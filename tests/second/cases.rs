@@ -4,6 +4,7 @@ mod favours;
 mod golay;
 mod hard;
 mod quick;
+mod receivers;
 pub mod refusals;
 mod sharp;
 mod soft;
@@ -23,6 +24,7 @@ pub enum Kind {
     Favours,
     Soft,
     Quick,
+    Receivers,
 }
 
 /// The sample of the fixed cases is random too, from this seed.
@@ -36,6 +38,7 @@ impl Kind {
             "favours" => Some(Kind::Favours),
             "soft" => Some(Kind::Soft),
             "quick" => Some(Kind::Quick),
+            "receivers" => Some(Kind::Receivers),
             _ => None,
         }
     }
@@ -48,6 +51,7 @@ impl Kind {
             Kind::Favours => Ok(favours::seeded(code, chance)),
             Kind::Soft => soft::seeded(code, chance),
             Kind::Quick => Ok(quick::seeded(code, chance)),
+            Kind::Receivers => Ok(receivers::seeded(code, chance)),
         }
     }
 
@@ -59,6 +63,7 @@ impl Kind {
             Kind::Favours => Ok(favours::fixed(code, chance)),
             Kind::Soft => soft::fixed(code, chance),
             Kind::Quick => Ok(quick::fixed(code, chance)),
+            Kind::Receivers => Ok(receivers::fixed(code, chance)),
         }
     }
 }

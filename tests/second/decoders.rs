@@ -151,6 +151,14 @@ pub fn column_figure(class: u32, column: u32, confidences: &[i32]) -> Result<i64
     for_interpretations(class, column, confidences).map(|[top_zero, _]| top_zero)
 }
 
+/// The reading with a number in a receiver's buffer, where the buffer is whole and has one (17.1).
+fn reading_of(buffer: &[i32], number: u64) -> Option<&[i32]> {
+    if buffer.len() % POSITIONS != 0 {
+        return None;
+    }
+    buffer.chunks(POSITIONS).nth(usize::try_from(number).ok()?)
+}
+
 impl Code {
     pub fn encode(&self, message: u32) -> Result<u32, Refusal> {
         if message < MESSAGES {
@@ -281,6 +289,28 @@ impl Code {
             correlation: best.largest,
             reserve: (best.largest - best.second) / 2,
         })
+    }
+
+    /// The choice between two receivers, and the part that is handed back (17.3 to 17.5).
+    pub fn better<'a>(
+        &self,
+        number: u64,
+        first: &'a [i32],
+        second: &'a [i32],
+    ) -> (u8, &'a [i32]) {
+        let neither = (0, &first[..0]);
+        let (Some(one), Some(other)) = (reading_of(first, number), reading_of(second, number))
+        else {
+            return neither;
+        };
+        let reserve = |reading| self.soft(reading).ok().map(|answer| answer.reserve);
+        match (reserve(one), reserve(other)) {
+            (None, None) => neither,
+            (Some(_), None) => (1, one),
+            (None, Some(_)) => (2, other),
+            (Some(of_one), Some(of_other)) if of_one < of_other => (2, other),
+            (Some(_), Some(_)) => (1, one),
+        }
     }
 
     pub fn quick(&self, confidences: &[i32]) -> Result<u32, Refusal> {

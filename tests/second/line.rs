@@ -25,6 +25,8 @@ pub enum Case {
     ColumnFigure(u32, u32, Vec<i32>),
     Soft(Vec<i32>),
     Quick(Vec<i32>),
+    /// A reading's number and the buffers of two receivers.
+    Better(u64, Vec<i32>, Vec<i32>),
 }
 
 pub fn spaced<T: Display>(numbers: &[T]) -> String {
@@ -52,6 +54,11 @@ impl Display for Case {
             }
             Case::Soft(reading) => write!(f, "soft{}", spaced(reading)),
             Case::Quick(reading) => write!(f, "quick{}", spaced(reading)),
+            // How many confidences are the first one's stands before both.
+            Case::Better(number, first, second) => {
+                let (length, first, second) = (first.len(), spaced(first), spaced(second));
+                write!(f, "better {number} {length}{first}{second}")
+            }
         }
     }
 }
@@ -75,7 +82,9 @@ fn only<T: FromStr + Display>(texts: &[&str]) -> Result<T, String> {
     }
 }
 
-fn first_and_rest<'a, 'b>(texts: &'b [&'a str]) -> Result<(u32, &'b [&'a str]), String> {
+fn first_and_rest<'a, 'b, T: FromStr + Display>(
+    texts: &'b [&'a str],
+) -> Result<(T, &'b [&'a str]), String> {
     match texts {
         [first, rest @ ..] => Ok((number(first)?, rest)),
         [] => Err("a number is missing".to_string()),
@@ -112,6 +121,15 @@ impl Case {
                 let (column, rest) = first_and_rest(rest)?;
                 Ok(Case::ColumnFigure(class, column, numbers(rest)?))
             }
+            "better" => {
+                let (number, rest) = first_and_rest(texts)?;
+                let (length, rest) = first_and_rest::<usize>(rest)?;
+                if length > rest.len() {
+                    return Err(format!("fewer than {length} confidences"));
+                }
+                let (first, second) = rest.split_at(length);
+                Ok(Case::Better(number, numbers(first)?, numbers(second)?))
+            }
             _ => Err(format!("'{call}' is no call")),
         }
     }
@@ -143,6 +161,9 @@ impl Case {
                 )
             })),
             Case::Quick(reading) => line_of(code.quick(reading)),
+            Case::Better(number, first, second) => {
+                line_of(Ok(code.better(*number, first, second).0))
+            }
             Case::WriteBytes(word, bytes) => {
                 let mut lent = bytes.clone();
                 lending_line(code.write_bytes(*word, &mut lent), &lent)

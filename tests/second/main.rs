@@ -12,6 +12,7 @@ mod code;
 mod compare;
 mod decoders;
 mod line;
+mod parts;
 mod readings;
 mod samples;
 #[cfg(test)]
@@ -33,13 +34,16 @@ const USAGE: &str =
        second fixed KIND             prints the fixed cases of a kind
        second answers                reads cases, prints an answer line each
        second compare CASES ANSWERS  compares a file of answers with its own
+       second lent                   reads cases of two receivers, prints what the program of
+                                     crates/parts reads for them
+       second parts                  reads such cases, prints what that program must print
        second capture FILE           prints what the capture program must print for a file
        second sample SAMPLE SEED     prints the capture that a seed gives
        second captures SEED PROGRAM [WORD..]
                                      runs a capture program on captures that a seed gives, and
                                      compares what it writes with its own
        second seed                   prints a fresh seed
-KIND is golay, hard, favours, soft or quick; SAMPLE is decent, weak or damaged;
+KIND is golay, hard, favours, soft, quick or receivers; SAMPLE is decent, weak or damaged;
 SEED is a decimal number below 2^64";
 
 enum Failure {
@@ -90,6 +94,12 @@ fn run(words: &[&str], out: &mut dyn Write) -> Result<(), Failure> {
         ["answers"] => print_all(&cases_of_standard_input()?, out, |case| {
             case.answer_line(&code)
         }),
+        ["lent"] => cases_of_standard_input()?
+            .iter()
+            .try_for_each(|case| print_bytes(&parts::bytes_of(case)?, out)),
+        ["parts"] => cases_of_standard_input()?
+            .iter()
+            .try_for_each(|case| print_text(&parts::line_of(&code, case)?, out)),
         ["compare", cases, answers] => print_report(&compare::compare(&code, cases, answers)?, out),
         ["captures", seed, program @ ..] if !program.is_empty() => {
             print_report(&captures::compare(&code, seed_of(seed)?, program)?, out)

@@ -31,6 +31,12 @@ pub fn speaking_for(word: u32, sizes: &[i64]) -> Vec<i32> {
     sizes.iter().enumerate().map(signed).collect()
 }
 
+/// The reading with its confidences negated where a word has a 1.
+pub fn turned(reading: &[i32], word: u32) -> Vec<i32> {
+    let sizes: Vec<i64> = reading.iter().map(|&c| i64::from(c)).collect();
+    speaking_for(word, &sizes)
+}
+
 pub fn sizes(chance: &mut Chance, least: i64, most: i64) -> Vec<i64> {
     (0..POSITIONS)
         .map(|_| chance.between(least, most))

@@ -391,6 +391,7 @@ fn case_lines_come_back_as_they_were() {
         Kind::Favours,
         Kind::Soft,
         Kind::Quick,
+        Kind::Receivers,
     ] {
         for case in kind.fixed(&code).expect("fixed cases") {
             assert_eq!(Case::from_line(&case.to_string()), Ok(case));
@@ -434,6 +435,11 @@ fn malformed_lines_are_named() {
         "quick 1.0",
         "quick 1\r",
         "quick 1\t2",
+        "better",
+        "better 0",
+        "better 0 1",
+        "better -1 0",
+        "better 18446744073709551616 0",
     ];
     for line in malformed {
         assert!(Case::from_line(line).is_err(), "{line:?}");

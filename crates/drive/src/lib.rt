@@ -6,6 +6,7 @@ ghost use Rattle.hard.specs.Calls.{Finds, applyRule, Corrects};
 ghost use Rattle.favours.specs.Calls.{columnFigureRule};
 ghost use Rattle.soft.specs.Calls.{ClassFigureRule, SoftRule};
 ghost use Rattle.quick.specs.Quick.{QuickRule};
+ghost use Rattle.receivers.specs.Choices.{Chooses};
 ghost use Rattle.hands.specs.Hands.{HandsBack, HandsBackOne, HandsBackCandidates, itself};
 ghost use Rattle.onwords.specs.Outputs.{finding, correction};
 ghost use Rattle.onreadings.specs.Outputs.{values};
@@ -96,6 +97,13 @@ pub extern "C" fn garthumor_quick(reading: &[i32], codeword: &mut u32) -> u8
     ensures { λ r. ⌜ HandsBackOne (QuickRule (now (reading .entry))) itself (now (codeword .entry)) (now (codeword .exit)) r ⌝ }
 {
     onreadings::quick(reading, codeword)
+}
+
+#[no_mangle]
+pub extern "C" fn garthumor_better(first: &[i32], second: &[i32], number: usize) -> u8
+    ensures { λ r. ⌜ Chooses (now (first .entry)) (now (second .entry)) number r ⌝ }
+{
+    onreadings::better(first, second, number)
 }
 
 #[no_mangle]

@@ -2,6 +2,7 @@
 ghost use Rattle.favours.specs.Calls.{columnFigureRule};
 ghost use Rattle.soft.specs.Calls.{ClassFigureRule, SoftRule};
 ghost use Rattle.quick.specs.Quick.{QuickRule};
+ghost use Rattle.receivers.specs.Choices.{Chooses};
 ghost use Rattle.hands.specs.Hands.{HandsBack, HandsBackOne, itself};
 ghost use Rattle.onreadings.specs.Outputs.{values};
 use favours::kinds::ColumnFigureAnswer;
@@ -68,4 +69,11 @@ pub fn column_figure(reading: &[i32], class_number: u32, column: u32, figure: &m
         }
         ColumnFigureAnswer::Refused(reason) => golay::refusal_number(reason),
     }
+}
+
+// The choice itself, and no status: nothing is refused.
+pub fn better(first: &[i32], second: &[i32], number: usize) -> u8
+    ensures { λ r. ⌜ Chooses (now (first .entry)) (now (second .entry)) number r ⌝ }
+{
+    receivers::receiver_number(receivers::choice(first, second, number))
 }

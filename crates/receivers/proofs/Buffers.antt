@@ -1,0 +1,48 @@
+-- What it is in numbers that a buffer holds a reading, and what it hands back where it holds none.
+use mathlib.Core.Path.{_≡_, refl}
+use mathlib.Core.Logic.{_≢_}
+use mathlib.Core.Bool.{Bool, true, false, _&&_}
+use mathlib.Core.List.{List, []}
+use Prim.Native.Nat.{ℕ, _+_, _*_, _/_, _%_, _≤_, _<_}
+use native.Mathlib.Omega.{arith}
+use lib.Dec.{eqb, ltb}
+use lib.IntN.{ℤ}
+use lib.ListN.{length, take, drop}
+use borrow.Author.Tests.{eq-eqb, ne-eqb, eqb-true, ltb-true}
+use Rattle.code.specs.Code.{positions}
+use Rattle.receivers.specs.Buffers.{holds, readingAt}
+
+pub both-true : (a b : Bool) → (a && b) ≡ true → (a ≡ true) × (b ≡ true)
+both-true true b e = (refl, e)
+both-true false b e = let z : _≡_ {A = ℕ} 0 1 = cc in absurd (omega arith)
+
+module _ (buffer : List ℤ) (number : ℕ) where
+  pub whole-holds : length buffer % positions ≡ 0 → holds buffer number ≡ ltb number (length buffer / positions)
+  unfolding holds
+  whole-holds e = simp (eq-eqb (length buffer % 24) 0 e)
+
+  pub not-whole : length buffer % positions ≢ 0 → holds buffer number ≡ false
+  unfolding holds
+  not-whole d = simp (ne-eqb (length buffer % 24) 0 d)
+
+  module _ (e : holds buffer number ≡ true) where
+    tests : (eqb (length buffer % positions) 0 ≡ true) × (ltb number (length buffer / positions) ≡ true)
+    unfolding holds
+    tests = both-true _ _ e
+
+    pub held-whole : length buffer % positions ≡ 0
+    held-whole = eqb-true (length buffer % positions) 0 (tests .0)
+
+    pub held-below : number < length buffer / positions
+    held-below = ltb-true number (length buffer / positions) (tests .1)
+
+    pub held-room : 24 * number + 24 ≤ length buffer
+    held-room = omega (arith, held-below)
+
+    pub reading-held : readingAt buffer number ≡ take positions (drop (positions * number) buffer)
+    unfolding readingAt
+    reading-held = simp e
+
+  pub reading-none : holds buffer number ≡ false → readingAt buffer number ≡ []
+  unfolding readingAt
+  reading-none e = simp e

@@ -1,0 +1,51 @@
+-- Two choices that a promise allows are equal, and so are two parts: each reading has one answer of the soft decoder.
+use mathlib.Core.Path.{_≡_, refl, sym, ap, ap₂, _∙_}
+use mathlib.Core.Bool.{cond, _&&_}
+use mathlib.Core.List.{List}
+use Prim.Native.Nat.{ℕ}
+use lib.Dec.{eqb}
+use lib.IntN.{ℤ}
+use Rattle.golay.specs.Answers.{Answer}
+use Rattle.golay.proofs.Decided.{said-once}
+use Rattle.soft.specs.declared.kinds.Soft.{Soft}
+use Rattle.soft.specs.Calls.{SoftRule}
+use Rattle.soft.proofs.Decided.{soft-once}
+use Rattle.receivers.specs.declared.kinds.Choice.{Choice}
+use Rattle.receivers.specs.declared.kinds.Choice.the-variants.{First, Second, Neither}
+use Rattle.receivers.specs.Buffers.{holds, readingAt}
+use Rattle.receivers.specs.Choices.{receiver, reserveOf, larger, Chooses, partOf, Better}
+
+-- the choice, by whichever answers the soft decoder's promise allows
+pub chosen :
+    {first second : List ℤ} {number choice : ℕ} (a b : Answer Soft)
+    → Chooses first second number choice
+    → SoftRule (readingAt first number) a
+    → SoftRule (readingAt second number) b
+    → choice ≡ cond (holds first number && holds second number) (larger (reserveOf a) (reserveOf b)) 0
+chosen {first} {second} {number} a b p r s =
+    p .is
+    ∙ ap₂ (λ (x y : Answer Soft). cond (holds first number && holds second number) (larger (reserveOf x) (reserveOf y)) 0)
+    (soft-once (readingAt first number) (p .one) a (p .one-allowed) r)
+    (soft-once (readingAt second number) (p .other) b (p .other-allowed) s)
+
+module _ {first second : List ℤ} {number : ℕ} where
+  pub choice-once : {c d : ℕ} → Chooses first second number c → Chooses first second number d → c ≡ d
+  choice-once p q = chosen (q .one) (q .other) p (q .one-allowed) (q .other-allowed) ∙ sym (q .is)
+
+  pub better-decided : {part other : List ℤ} → Better first second number part → Better first second number other → part ≡ other
+  better-decided p q = p .is ∙ ap (partOf first second number) (choice-once (p .chooses) (q .chooses)) ∙ sym (q .is)
+
+-- ---- of the call's own answer, which is made again from its number
+
+again : ℕ → Choice
+again n = cond (eqb n 1) First (cond (eqb n 2) Second Neither)
+
+back : (c : Choice) → again (receiver c) ≡ c
+unfolding again
+back First = refl
+back Second = refl
+back Neither = refl
+
+pub choice-decided : (first second : List ℤ) (number : ℕ) (x y : Choice)
+    → Chooses first second number (receiver x) → Chooses first second number (receiver y) → x ≡ y
+choice-decided first second number x y p q = said-once receiver again back x y (choice-once p q) refl

@@ -1,0 +1,3 @@
+pub mod Buffers
+pub mod Choosing
+pub mod Decided
