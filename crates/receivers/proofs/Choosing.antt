@@ -1,19 +1,20 @@
 -- How a choice and a part come about: from two answers, from a buffer that holds no reading, and from the chosen receiver's reading.
-use mathlib.Core.Path.{_≡_, refl}
+use mathlib.Core.Path.{_≡_, refl, _∙_}
 use mathlib.Core.Bool.{Bool, true, false, cond, _&&_}
 use mathlib.Core.List.{List}
 use Prim.Native.Nat.{ℕ, _<_}
 use native.Mathlib.Omega.{arith}
 use lib.Dec.{lit<}
 use lib.IntN.{ℤ}
-use denote.Ref.{RefT, now}
+use denote.Ref.{RefT, ptr, now}
 use Rattle.golay.specs.Answers.{Answer}
+use Rattle.buffers.specs.Buffers.{holds, readingAt, LendsReading}
+use Rattle.buffers.proofs.Holding.{begins-held}
 use Rattle.soft.specs.declared.kinds.Soft.{Soft}
 use Rattle.soft.specs.Calls.{SoftRule}
 use Rattle.soft.proofs.Decided.{soft-exists}
 use Rattle.receivers.specs.declared.kinds.Choice.{Choice}
 use Rattle.receivers.specs.declared.kinds.Choice.the-variants.{First, Second}
-use Rattle.receivers.specs.Buffers.{holds, readingAt, LendsReading}
 use Rattle.receivers.specs.Choices.{receiver, reserveOf, larger, Chooses, LendsBetter}
 
 module _ (first second : List ℤ) (number : ℕ) where
@@ -47,9 +48,9 @@ module _ {first second part : RefT (List ℤ)} {number : ℕ} {choice : Choice} 
   pub lends-first : choice ≡ First → LendsReading first number part → LendsBetter first second number part
   lends-first e l =
       let q = rw e at p in
-      record { better = record { choice = 1; chooses = q; is = l .contents }; place = l .place (pair-held q (lit< tt) .0) }
+      record { better = record { choice = 1; chooses = q; is = l .contents }; begins = l .begins ∙ begins-held _ _ (pair-held q (lit< tt) .0) (ptr first) }
 
   pub lends-second : choice ≡ Second → LendsReading second number part → LendsBetter first second number part
   lends-second e l =
       let q = rw e at p in
-      record { better = record { choice = 2; chooses = q; is = l .contents }; place = l .place (pair-held q (lit< tt) .1) }
+      record { better = record { choice = 2; chooses = q; is = l .contents }; begins = l .begins ∙ begins-held _ _ (pair-held q (lit< tt) .1) (ptr second) }

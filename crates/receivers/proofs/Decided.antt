@@ -5,15 +5,16 @@ use mathlib.Core.List.{List}
 use Prim.Native.Nat.{ℕ}
 use lib.Dec.{eqb}
 use lib.IntN.{ℤ}
+use denote.Ref.{RefT, ptr, now}
 use Rattle.golay.specs.Answers.{Answer}
 use Rattle.golay.proofs.Decided.{said-once}
+use Rattle.buffers.specs.Buffers.{holds, readingAt}
 use Rattle.soft.specs.declared.kinds.Soft.{Soft}
 use Rattle.soft.specs.Calls.{SoftRule}
 use Rattle.soft.proofs.Decided.{soft-once}
 use Rattle.receivers.specs.declared.kinds.Choice.{Choice}
 use Rattle.receivers.specs.declared.kinds.Choice.the-variants.{First, Second, Neither}
-use Rattle.receivers.specs.Buffers.{holds, readingAt}
-use Rattle.receivers.specs.Choices.{receiver, reserveOf, larger, Chooses, partOf, Better}
+use Rattle.receivers.specs.Choices.{receiver, reserveOf, larger, Chooses, partOf, Better, beginsAt, LendsBetter}
 
 -- the choice, by whichever answers the soft decoder's promise allows
 pub chosen :
@@ -32,8 +33,21 @@ module _ {first second : List ℤ} {number : ℕ} where
   pub choice-once : {c d : ℕ} → Chooses first second number c → Chooses first second number d → c ≡ d
   choice-once p q = chosen (q .one) (q .other) p (q .one-allowed) (q .other-allowed) ∙ sym (q .is)
 
-  pub better-decided : {part other : List ℤ} → Better first second number part → Better first second number other → part ≡ other
-  better-decided p q = p .is ∙ ap (partOf first second number) (choice-once (p .chooses) (q .chooses)) ∙ sym (q .is)
+  pub better-once : {part other : List ℤ} → Better first second number part → Better first second number other → part ≡ other
+  better-once p q = p .is ∙ ap (partOf first second number) (choice-once (p .chooses) (q .chooses)) ∙ sym (q .is)
+
+-- what the part holds, and where it begins
+pub better-decided :
+    {first second part other : RefT (List ℤ)} {number : ℕ}
+    → LendsBetter first second number part
+    → LendsBetter first second number other
+    → (now part ≡ now other) × (ptr part ≡ ptr other)
+better-decided {first} {second} {number = number} p q = (
+  better-once (p .better) (q .better),
+  p .begins
+      ∙ ap (beginsAt (ptr first) (ptr second) number) (choice-once (p .better .chooses) (q .better .chooses))
+      ∙ sym (q .begins),
+)
 
 -- ---- of the call's own answer, which is made again from its number
 

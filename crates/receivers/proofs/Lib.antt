@@ -1,3 +1,4 @@
-pub mod Buffers
 pub mod Choosing
 pub mod Decided
+pub mod Parts
+pub mod Cases

@@ -8,11 +8,11 @@ use lib.IntN.{ℤ}
 use lib.Signed.{leZ}
 use denote.Ref.{RefT, ptr, now}
 use Rattle.golay.specs.Answers.{Answer, accepted, refused}
+use Rattle.buffers.specs.Buffers.{holds, readingAt, placeAt}
 use Rattle.soft.specs.declared.kinds.Soft.{Soft}
 use Rattle.soft.specs.Calls.{SoftRule}
 use Rattle.receivers.specs.declared.kinds.Choice.{Choice}
 use Rattle.receivers.specs.declared.kinds.Choice.the-variants.{First, Second, Neither}
-use Rattle.receivers.specs.Buffers.{holds, readingAt, placeOf}
 
 -- Rules 15.5 and 17.4: each choice by its number
 abbrev pub receiver : Choice → ℕ
@@ -51,11 +51,11 @@ pub record Better (first second : List ℤ) (number : ℕ) (part : List ℤ) : T
   pub chooses : Chooses first second number choice
   pub is : part ≡ partOf first second number choice
 
--- Rules 15.9 and 17.5: where in memory it begins, for buffers that begin at these places: in the chosen one's buffer, or where the first one's does
+-- Rules 15.9 and 17.5: where in memory it begins, for two buffers that begin at these places: at the reading, or where the first buffer does
 abbrev pub beginsAt : ℕ × ℕ → ℕ × ℕ → ℕ → ℕ → ℕ × ℕ
-beginsAt first second number choice = cond (eqb choice 1) (placeOf first number) (cond (eqb choice 2) (placeOf second number) first)
+beginsAt first second number choice = cond (eqb choice 1) (placeAt first number) (cond (eqb choice 2) (placeAt second number) first)
 
--- Rules 15.9 and 17.5: the part, which is lent on and not copied
+-- Rules 15.9 and 17.5: the part that is handed back, which is lent on and not copied
 pub record LendsBetter (first second : RefT (List ℤ)) (number : ℕ) (part : RefT (List ℤ)) : Type 0 where
   pub better : Better (now first) (now second) number (now part)
-  pub place : ptr part ≡ beginsAt (ptr first) (ptr second) number (better .choice)
+  pub begins : ptr part ≡ beginsAt (ptr first) (ptr second) number (better .choice)

@@ -2,37 +2,14 @@
 // buffers and every number, and its promise decides the whole answer.
 ghost use mathlib.Core.Path.{_≡_};
 ghost use Rattle.soft.specs.Answers.{softAnswer};
-ghost use Rattle.receivers.specs.Buffers as buffers;
-ghost use Rattle.receivers.specs.Buffers.{LendsReading};
 ghost use Rattle.receivers.specs.Choices.{reserveOf, larger, receiver, Chooses, LendsBetter};
 
 pub mod kinds;
 
-use golay::POSITIONS;
+use buffers::holds;
+use buffers::reading_at;
 use kinds::Choice;
 use soft::kinds::SoftAnswer;
-
-// Whether a buffer is whole and has a reading with this number. It is asked before any place is computed: 24 times a number may not fit.
-fn holds(buffer: &[i32], number: usize) -> bool
-    ensures { λ r. ⌜ r ≡ buffers.holds (now (buffer .entry)) number ⌝ }
-{
-    if buffer.len() % POSITIONS != 0 {
-        return false;
-    }
-    number < buffer.len() / POSITIONS
-}
-
-// The reading with this number, as a part of the buffer; an empty part where the buffer holds none.
-fn reading_at<'a>(buffer: &'a [i32], number: usize) -> &'a [i32]
-    ensures { λ r. ⌜ LendsReading (buffer .entry) number r ⌝ }
-{
-    if !holds(buffer, number) {
-        return &buffer[0..0];
-    }
-    let from = POSITIONS * number;
-    let to = from + POSITIONS;
-    &buffer[from..to]
-}
 
 // The answer with the larger reserve, the first where they are equal; a refusal has none.
 fn larger_reserve(first: SoftAnswer, second: SoftAnswer) -> Choice

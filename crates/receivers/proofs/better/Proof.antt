@@ -1,15 +1,10 @@
 -- `receivers::better` meets its contract: the chosen receiver's buffer holds the reading, and the part is that reading in its place.
-use mathlib.Core.Path.{_≡_, refl, ap}
-use Prim.Native.Nat.{ℕ, _+_}
-use native.Mathlib.Omega.{arith}
+use mathlib.Core.Path.{refl}
 use borrow.Author.Needs.{needs}
+use Rattle.buffers.proofs.Holding.{from-start}
 use Rattle.receivers.proofs.Choosing.{lends-first, lends-second}
 use Rattle.receivers.proofs.better.Statement.{statement}
 use Rattle.receivers.proofs.better.Tie as tie
-
--- a part from place 0 on begins where the buffer does
-same-place : (p : ℕ × ℕ) → (p .0, 0 + p .1) ≡ p
-same-place p = ap (λ (offset : ℕ). (p .0, offset)) (omega arith)
 
 choice-requires : tie.Need-choice-requires
 choice-requires c κs = search needs
@@ -52,7 +47,7 @@ returns-3 : tie.Need-returns-3
 returns-3 c =
     let told = c .before in
     let p = rw (told .enum-told3 .given .1) at (told .before .before .choice .ensures) in
-    record { better = record { choice = 0; chooses = p; is = refl }; place = same-place (told .before .before .before .args .first .ptr) }
+    record { better = record { choice = 0; chooses = p; is = refl }; begins = from-start (told .before .before .before .args .first .ptr) }
 
 pub better-spec : {M : Type 1} → statement M
 better-spec =

@@ -6,12 +6,6 @@ use Rattle.soft.specs.Answers.{softAnswer}
 use Rattle.receivers.proofs.Choosing.{no-pair, a-pair}
 use Rattle.receivers.proofs.choice.Statement.{statement}
 use Rattle.receivers.proofs.choice.Tie as tie
-use Rattle.receivers.proofs.choice.Reads as reads
-use Rattle.receivers.proofs.choice.Lts as lts
-use Rattle.receivers.proofs.holds.Reads as holds-reads
-use Rattle.receivers.proofs.larger_reserve.Reads as larger-reserve-reads
-use Rattle.receivers.proofs.reading_at.Reads as reading-at-reads
-use Rattle.soft.proofs.soft.Reads as soft-reads
 
 holds-requires : tie.Need-holds-requires
 holds-requires c κs = search needs

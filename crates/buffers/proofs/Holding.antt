@@ -1,7 +1,7 @@
--- What it is in numbers that a buffer holds a reading, and what it hands back where it holds none.
-use mathlib.Core.Path.{_≡_, refl}
+-- What it is in numbers that a buffer holds a reading; what the reading's part is, and where it begins.
+use mathlib.Core.Path.{_≡_, refl, ap}
 use mathlib.Core.Logic.{_≢_}
-use mathlib.Core.Bool.{Bool, true, false, _&&_}
+use mathlib.Core.Bool.{Bool, true, false, cond, _&&_}
 use mathlib.Core.List.{List, []}
 use Prim.Native.Nat.{ℕ, _+_, _*_, _/_, _%_, _≤_, _<_}
 use native.Mathlib.Omega.{arith}
@@ -10,7 +10,7 @@ use lib.IntN.{ℤ}
 use lib.ListN.{length, take, drop}
 use borrow.Author.Tests.{eq-eqb, ne-eqb, eqb-true, ltb-true}
 use Rattle.code.specs.Code.{positions}
-use Rattle.receivers.specs.Buffers.{holds, readingAt}
+use Rattle.buffers.specs.Buffers.{holds, readingAt, placeAt}
 
 pub both-true : (a b : Bool) → (a && b) ≡ true → (a ≡ true) × (b ≡ true)
 both-true true b e = (refl, e)
@@ -43,6 +43,17 @@ module _ (buffer : List ℤ) (number : ℕ) where
     unfolding readingAt
     reading-held = simp e
 
-  pub reading-none : holds buffer number ≡ false → readingAt buffer number ≡ []
-  unfolding readingAt
-  reading-none e = simp e
+    pub begins-held : (at : ℕ × ℕ) → cond (holds buffer number) (placeAt at number) at ≡ placeAt at number
+    begins-held at = simp e
+
+  module _ (e : holds buffer number ≡ false) where
+    pub reading-none : readingAt buffer number ≡ []
+    unfolding readingAt
+    reading-none = simp e
+
+    pub begins-none : (at : ℕ × ℕ) → cond (holds buffer number) (placeAt at number) at ≡ at
+    begins-none at = simp e
+
+-- a part from the first place on begins where the buffer does
+pub from-start : (at : ℕ × ℕ) → (at .0, 0 + at .1) ≡ at
+from-start at = ap (λ (offset : ℕ). (at .0, offset)) (omega arith)

@@ -1,27 +1,21 @@
--- `receivers::reading_at` meets its contract: a reading that the buffer holds lies within it.
-use mathlib.Core.Path.{_≡_, refl, sym, _∙_}
-use mathlib.Core.Bool.{Bool, true, false}
+-- `buffers::reading_at` meets its contract: a reading that the buffer holds lies within it.
+use mathlib.Core.Path.{_≡_, sym, _∙_}
+use mathlib.Core.Bool.{true}
 use Prim.Native.Nat.{ℕ, _+_, _-_, _*_, _≤_}
 use native.Mathlib.Omega.{arith}
 use borrow.Author.Needs.{needs}
 use borrow.Author.Tests.{not-true, not-false}
 use lib.ListN.{length}
-use Rattle.receivers.specs.Buffers.{holds}
-use Rattle.receivers.proofs.Buffers.{held-room, reading-held, reading-none}
-use Rattle.receivers.proofs.reading_at.Statement.{statement}
-use Rattle.receivers.proofs.reading_at.Tie as tie
-use Rattle.receivers.proofs.reading_at.Reads as reads
-use Rattle.receivers.proofs.reading_at.Lts as lts
-use Rattle.receivers.proofs.holds.Reads as holds-reads
+use Rattle.buffers.specs.Buffers.{holds}
+use Rattle.buffers.proofs.Holding.{held-room, reading-held, reading-none, begins-held, begins-none, from-start}
+use Rattle.buffers.proofs.reading_at.Statement.{statement}
+use Rattle.buffers.proofs.reading_at.Tie as tie
 
 held : (c : tie.Else1) → holds (c .before .before .args .buffer .now) (c .before .before .args .number) ≡ true
 held c = sym (c .before .holds .ensures) ∙ not-false _ (c .if1 .left)
 
 room : (c : tie.Else1) → 24 * c .before .before .args .number + 24 ≤ length (c .before .before .args .buffer .now)
 room c = held-room _ _ (held c)
-
-never : {b : Bool} → b ≡ false → b ≡ true → ⊥
-never e f = let z : _≡_ {A = ℕ} 0 1 = cc in omega arith
 
 span : (n : ℕ) → 24 * n + 24 - 24 * n ≡ 24
 span n = omega arith
@@ -43,7 +37,10 @@ returns c =
     let called = c .before .before in
     let a = called .before .args in
     let e = sym (called .holds .ensures) ∙ not-true _ (c .before .if1 .taken) in
-    record { contents = sym (reading-none (a .buffer .now) (a .number) e); place = λ f. absurd (never e f) }
+    record {
+      contents = sym (reading-none (a .buffer .now) (a .number) e);
+      begins = from-start (a .buffer .ptr) ∙ sym (begins-none (a .buffer .now) (a .number) e (a .buffer .ptr));
+    }
 
 mul-from : tie.Need-mul-from
 mul-from c = let h = room c in search needs
@@ -66,7 +63,11 @@ part-result-end-2 c = let h = room c in search needs
 returns-2 : tie.Need-returns-2
 returns-2 c =
     let a = c .before .before .before .args in
-    record { contents = rw (span (a .number)) (sym (reading-held (a .buffer .now) (a .number) (held (c .before)))); place = λ e. refl }
+    let e = held (c .before) in
+    record {
+      contents = rw (span (a .number)) (sym (reading-held (a .buffer .now) (a .number) e));
+      begins = sym (begins-held (a .buffer .now) (a .number) e (a .buffer .ptr));
+    }
 
 pub reading-at-spec : {M : Type 1} → statement M
 reading-at-spec =

@@ -1,6 +1,6 @@
--- Rules 17.1 and 17.2: a receiver's buffer, and the reading with a number in it.
+-- Rules 17.1 and 17.2: a receiver's buffer, and the reading with a number as a part of it.
 use mathlib.Core.Path.{_≡_}
-use mathlib.Core.Bool.{Bool, true, cond, _&&_}
+use mathlib.Core.Bool.{Bool, cond, _&&_}
 use mathlib.Core.List.{List, []}
 use Prim.Native.Nat.{ℕ, _+_, _*_, _/_, _%_}
 use lib.Dec.{eqb, ltb}
@@ -17,11 +17,11 @@ holds buffer number = eqb (length buffer % positions) 0 && ltb number (length bu
 unfoldable pub readingAt : List ℤ → ℕ → List ℤ
 readingAt buffer number = cond (holds buffer number) (take positions (drop (positions * number) buffer)) []
 
--- Rules 15.9 and 17.1: where in memory the reading with this number begins, for a buffer that begins at a block's offset. A confidence takes four bytes.
-abbrev pub placeOf : ℕ × ℕ → ℕ → ℕ × ℕ
-placeOf (block, offset) number = (block, positions * number * 4 + offset)
+-- Rule 15.9: where in memory the reading with this number begins, for a buffer that begins at an offset of a block. A confidence takes four bytes.
+abbrev pub placeAt : ℕ × ℕ → ℕ → ℕ × ℕ
+placeAt (block, offset) number = (block, positions * number * 4 + offset)
 
--- Rules 15.9 and 17.1: a part of a lent buffer: what it holds, and that it is no copy
+-- Rules 15.9 and 17.1: a part of a lent buffer: what it holds, and where it begins, so that it is no copy
 pub record LendsReading (buffer : RefT (List ℤ)) (number : ℕ) (part : RefT (List ℤ)) : Type 0 where
   pub contents : now part ≡ readingAt (now buffer) number
-  pub place : holds (now buffer) number ≡ true → ptr part ≡ placeOf (ptr buffer) number
+  pub begins : ptr part ≡ cond (holds (now buffer) number) (placeAt (ptr buffer) number) (ptr buffer)

@@ -1,8 +1,8 @@
--- `receivers::holds` meets its contract: the tests are the definition's.
+-- `buffers::holds` meets its contract: the tests are the definition's.
 use mathlib.Core.Path.{sym}
-use Rattle.receivers.proofs.Buffers.{whole-holds, not-whole}
-use Rattle.receivers.proofs.holds.Statement.{statement}
-use Rattle.receivers.proofs.holds.Tie as tie
+use Rattle.buffers.proofs.Holding.{whole-holds, not-whole}
+use Rattle.buffers.proofs.holds.Statement.{statement}
+use Rattle.buffers.proofs.holds.Tie as tie
 
 returns : tie.Need-returns
 returns c = let a = c .before .args in sym (not-whole (a .buffer .now) (a .number) (c .if1 .taken))
