@@ -16,6 +16,8 @@ use Rattle.soft.specs.Calls.{ClassFigureRule, SoftRule}
 use Rattle.soft.proofs.Decided.{classFigure-once, soft-once}
 use Rattle.quick.specs.Quick.{QuickRule}
 use Rattle.quick.proofs.Rules.{quick-once}
+use Rattle.receivers.specs.Choices.{Chooses}
+use Rattle.receivers.proofs.Decided.{choice-once}
 use Rattle.hands.specs.Hands.{HandsBack, HandsBackOne, HandsBackCandidates, itself}
 use Rattle.hands.proofs.Hands.{hands-decided, hands-one-decided, hands-candidates-decided}
 
@@ -55,6 +57,11 @@ soft-decided reading before after later status other = hands-one-decided (soft-o
 
 pub quick-decided : (reading : List ℤ) → Decided {M = ℕ} (HandsBackOne (QuickRule reading) itself)
 quick-decided reading before after later status other = hands-one-decided (quick-once reading)
+
+-- a call without outputs: the choice alone
+pub better-decided : (first second : List ℤ) (number choice other : ℕ)
+    → Chooses first second number choice → Chooses first second number other → choice ≡ other
+better-decided first second number choice other = choice-once
 
 -- the buffer's contents before the call decide the answer too
 pub writeBytes-decided :
