@@ -52,33 +52,44 @@ fn confidences(case: &[u8], from: usize) -> [i32; 144]
     made
 }
 
+fn print_confidence(confidence: i64) {
+    io::write_all(STDOUT_FILENO, b" ");
+    if signed::negative(confidence) {
+        io::write_all(STDOUT_FILENO, b"-");
+    }
+    io::print_decimal(STDOUT_FILENO, signed::size(confidence));
+}
+
 fn print_part(part: &[i32]) {
     io::print_decimal(STDOUT_FILENO, part.len() as u64);
     let mut i = 0;
     while i < part.len() {
-        let confidence = signed::widened(part, i);
-        io::write_all(STDOUT_FILENO, b" ");
-        if signed::negative(confidence) {
-            io::write_all(STDOUT_FILENO, b"-");
-        }
-        io::print_decimal(STDOUT_FILENO, signed::size(confidence));
+        print_confidence(signed::widened(part, i));
         i += 1;
     }
     io::write_all(STDOUT_FILENO, b"\n");
 }
 
-fn show(case: &[u8])
+// Of buffers that have the first n and the first m of these confidences.
+fn print_better<'a>(first: &'a [i32], n: usize, second: &'a [i32], m: usize, number: usize) {
+    if n > first.len() {
+        return;
+    }
+    if m > second.len() {
+        return;
+    }
+    print_part(receivers::better(&first[0..n], &second[0..m], number));
+}
+
+fn print_case(case: &[u8])
     requires { ⌜ length (now case) ≡ 1186 ⌝ }
 {
     let number = word_at(case, 0) * 0x1_0000_0000 + word_at(case, 4);
     let n = wide(case[8]) as usize;
     let m = wide(case[9]) as usize;
-    if n > BUFFER || m > BUFFER {
-        return;
-    }
     let first = confidences(case, FIRST);
     let second = confidences(case, SECOND);
-    print_part(receivers::better(&first[..n], &second[..m], number as usize));
+    print_better(&first, n, &second, m, number as usize);
 }
 
 fn main() {
@@ -88,7 +99,7 @@ fn main() {
         if io::read_full(STDIN_FILENO, &mut case) < CASE {
             return;
         }
-        show(&case);
+        print_case(&case);
         cases += 1;
     }
 }
