@@ -191,19 +191,19 @@ static void some_readings(int32_t *buffer, const int32_t *other)
     }
 }
 
-/* Whole readings, or one confidence more or less. */
+/* Whole readings, mostly all of them; or one confidence more or less. */
 static size_t some_buffer_length(void)
 {
-    size_t length = chance() % (MOST_READINGS + 1) * POSITIONS;
     uint32_t sort = chance() % 16;
-    return sort == 0 ? length + 1 : sort == 1 && length > 0 ? length - 1 : length;
+    size_t length = (sort < 4 ? chance() % (MOST_READINGS + 1) : MOST_READINGS) * POSITIONS;
+    return sort == 4 ? length + 1 : sort == 5 ? length - 1 : length;
 }
 
 /* Mostly that of a reading; or one that 24 times makes small again in 64 bits, or anything. */
 static size_t some_reading_number(void)
 {
-    size_t number = chance() % (MOST_READINGS + 2);
     uint32_t sort = chance() % 16;
+    size_t number = chance() % (sort < 8 ? MOST_READINGS + 2 : MOST_READINGS);
     return sort == 0 ? SIZE_MAX - number : sort == 1 ? ((size_t)1 << 61) + number : sort == 2 ? (size_t)chance() << 32 | number : number;
 }
 

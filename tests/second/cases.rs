@@ -16,6 +16,8 @@ use crate::line::Case;
 
 #[cfg(test)]
 pub use hard::patterns;
+#[cfg(test)]
+pub use receivers::equal;
 
 #[derive(Clone, Copy)]
 pub enum Kind {

@@ -292,12 +292,7 @@ impl Code {
     }
 
     /// The choice between two receivers, and the part that is handed back (17.3 to 17.5).
-    pub fn better<'a>(
-        &self,
-        number: u64,
-        first: &'a [i32],
-        second: &'a [i32],
-    ) -> (u8, &'a [i32]) {
+    pub fn better<'a>(&self, number: u64, first: &'a [i32], second: &'a [i32]) -> (u8, &'a [i32]) {
         let neither = (0, &first[..0]);
         let (Some(one), Some(other)) = (reading_of(first, number), reading_of(second, number))
         else {

@@ -28,7 +28,9 @@ pub fn bytes_of(case: &Case) -> Result<Vec<u8>, String> {
     for buffer in [first, second] {
         let mut whole = buffer.to_vec();
         whole.resize(READINGS * POSITIONS, 0);
-        whole.chunks(POSITIONS).for_each(|reading| bytes.extend(record(reading)));
+        whole
+            .chunks(POSITIONS)
+            .for_each(|reading| bytes.extend(record(reading)));
     }
     Ok(bytes)
 }

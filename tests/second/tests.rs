@@ -4,7 +4,7 @@
 
 use crate::capture;
 use crate::captures::trials;
-use crate::cases::{patterns, refusals, Kind};
+use crate::cases::{equal, patterns, refusals, Kind};
 use crate::chance::Chance;
 use crate::code::{
     bit_at, columns, distance, hexacodeword, interpretations, parity, projection, syndrome_of, top,
@@ -13,6 +13,7 @@ use crate::code::{
 use crate::compare::compare;
 use crate::decoders::for_interpretations;
 use crate::line::{cases_of, spaced, Case};
+use crate::parts;
 use crate::readings::KINDS;
 use crate::samples::Sample;
 use crate::words::{any_word, damaged};
@@ -380,6 +381,71 @@ fn column_figures_reach_the_class_figure() {
             assert_eq!(both[top(*column) as usize], *column);
         }
     }
+}
+
+/// Rule 16.10, by hand: the choices, and those where the receivers are exchanged.
+#[test]
+fn worked_receivers() {
+    let code = code();
+    let fixed = Kind::Receivers.fixed(&code).expect("fixed cases");
+    let choices: Vec<String> = fixed.iter().map(|case| case.answer_line(&code)).collect();
+    let expected = [2, 1, 2, 0, 0, 1, 1, 1, 0, 0].map(|choice| format!("answered {choice}"));
+    assert_eq!(choices[..10], expected);
+    let Case::Better(_, first, second) = &fixed[0] else {
+        panic!("no case of two receivers");
+    };
+    assert_eq!(first[..48], [1; 48]);
+    assert_eq!(second[..24], [2; 24]);
+    assert_eq!((first.len(), second.len()), (120, 96));
+    assert_eq!(code.better(0, first, second).1, [2; 24]);
+    assert_eq!(code.better(3, first, second).1, []);
+    assert_eq!(
+        parts::line_of(&code, &fixed[1]),
+        Ok(format!("24{}\n", " 1".repeat(24)))
+    );
+}
+
+/// What is made to have equal reserves has them, or is tied twice.
+#[test]
+fn turned_readings_have_one_reserve() {
+    let code = code();
+    let chance = &mut Chance::from_seed(8);
+    for _ in 0..200 {
+        let reserves = equal(&code, chance).map(|reading| {
+            let answer = code.soft(&reading);
+            answer.map(|answer| answer.reserve)
+        });
+        assert_eq!(reserves[0], reserves[1]);
+    }
+}
+
+/// Rules 17.6 and 17.7 over the cases: a part is empty or accepted, and with the receivers exchanged
+/// it has the same reserve, and is another part only where both have it. Each choice comes up, and so
+/// do equal reserves.
+#[test]
+fn parts_are_accepted_and_exchange() {
+    let code = code();
+    let cases = Kind::Receivers.seeded(&code, 9).expect("seeded cases");
+    let reserve = |part: &[i32]| code.soft(part).map(|answer| answer.reserve);
+    let mut often = [0; 3];
+    let mut equal = 0;
+    for case in &cases {
+        let Case::Better(number, first, second) = case else {
+            panic!("no case of two receivers");
+        };
+        let (choice, part) = code.better(*number, first, second);
+        let (other_choice, other) = code.better(*number, second, first);
+        often[choice as usize] += 1;
+        assert_eq!(part.is_empty(), choice == 0);
+        assert!(part.is_empty() || reserve(part).is_ok());
+        assert_eq!(reserve(part), reserve(other));
+        if (choice, other_choice) == (1, 1) {
+            equal += 1;
+        } else {
+            assert_eq!((other_choice, part), ((3 - choice) % 3, other));
+        }
+    }
+    assert!(often.iter().all(|&times| times > 500) && equal > 200);
 }
 
 #[test]

@@ -8,8 +8,8 @@ use crate::line::Case;
 use crate::readings::{speaking_for, turned, KINDS, MOST};
 use crate::words::any_codeword;
 
-const SEEDED_PAIRS: usize = 1_000;
-const FIXED_PAIRS: usize = 24;
+const SEEDED_PAIRS: usize = 1_500;
+const FIXED_PAIRS: usize = 20;
 
 /// The readings that a receiver's buffer has at most.
 pub const MOST_READINGS: usize = 5;
@@ -30,7 +30,7 @@ fn gathered(code: &Code, chance: &mut Chance, pairs: usize) -> Vec<Case> {
     for _ in 0..pairs {
         let [first, second] = buffers(code, chance);
         cases.extend(numbered(chance, &first, &second));
-        cases.extend(of_other_lengths(chance, &first, &second));
+        cases.push(of_another_length(chance, first, second));
     }
     cases
 }
@@ -48,19 +48,21 @@ pub fn worked() -> Vec<Case> {
     [asked(&first, &second), asked(&second, &first)].concat()
 }
 
-/// Two buffers of up to five readings each, often as many.
+/// Two buffers of up to five readings each, mostly of as many.
 fn buffers(code: &Code, chance: &mut Chance) -> [Vec<i32>; 2] {
-    let most = MOST_READINGS as u64 + 1;
-    let counts = [chance.below(most), chance.below(most)];
-    let both = if chance.one_in(2) { 0 } else { 1 };
     let pairs: Vec<Readings> = (0..MOST_READINGS)
         .map(|_| readings_of_a_pair(code, chance))
         .collect();
-    let buffer = |receiver: usize, count: u64| {
+    let mut count = || chance.below(MOST_READINGS as u64 + 1) as usize;
+    let (mut counts, both) = ([count(), count()], count());
+    if both > 1 {
+        counts = [both; 2];
+    }
+    let buffer = |receiver: usize| {
         let readings = pairs.iter().map(|pair| &pair[receiver][..]);
-        readings.take(count as usize).flatten().copied().collect()
+        readings.take(counts[receiver]).flatten().copied().collect()
     };
-    [buffer(0, counts[0]), buffer(1, counts[both])]
+    [buffer(0), buffer(1)]
 }
 
 /// Any two readings; or two with equal reserves, or with nearly equal ones, made on purpose.
@@ -107,37 +109,42 @@ fn nearly_equal(code: &Code, chance: &mut Chance) -> Readings {
     pair
 }
 
-/// Every number of a reading, those at the counts and one above; and numbers beyond 32 bits, some of
-/// which have a reading's number in their lower bits or make a place in the buffer where 24 times the
-/// number is cut to 64 bits.
+/// Every number up to one above both counts; and a number beyond 32 bits: the largest of all, or one
+/// that has a reading's number in its lower bits, or one that 24 times, cut to 64 bits, leads back
+/// into the buffer.
 fn numbered(chance: &mut Chance, first: &[i32], second: &[i32]) -> Vec<Case> {
-    let counts = [first, second].map(|buffer| (buffer.len() / POSITIONS) as u64);
-    let mut numbers: Vec<u64> = (0..=counts[0].max(counts[1]) + 1).collect();
-    let low = chance.below(counts[0].max(1));
+    let longer = (first.len().max(second.len()) / POSITIONS) as u64;
+    let low = chance.below(longer.max(1));
+    let positions = POSITIONS as u64;
     let far = [
         u64::MAX,
-        u64::MAX / POSITIONS as u64,
-        u64::MAX / POSITIONS as u64 + 1,
+        u64::MAX / positions + low,
         1 << 61 | low,
         1 << 32 | low,
         1 << 63 | low,
     ];
-    numbers.push(u64::MAX);
-    numbers.push(chance.pick(&far));
     let case = |number| Case::Better(number, first.to_vec(), second.to_vec());
-    numbers.into_iter().map(case).collect()
+    (0..=longer + 1)
+        .chain([chance.pick(&far)])
+        .map(case)
+        .collect()
 }
 
 /// One of the buffers, or both, with a confidence more or less than whole readings have.
-fn of_other_lengths(chance: &mut Chance, first: &[i32], second: &[i32]) -> Vec<Case> {
-    let longer = |buffer: &[i32]| [buffer, &[1]].concat();
-    let shorter = |buffer: &[i32]| buffer[..buffer.len().saturating_sub(1)].to_vec();
-    let number = chance.below(MOST_READINGS as u64);
-    vec![
-        Case::Better(number, longer(first), second.to_vec()),
-        Case::Better(0, shorter(first), second.to_vec()),
-        Case::Better(number, first.to_vec(), longer(second)),
-        Case::Better(0, first.to_vec(), shorter(second)),
-        Case::Better(0, longer(first), longer(second)),
-    ]
+fn of_another_length(chance: &mut Chance, mut first: Vec<i32>, mut second: Vec<i32>) -> Case {
+    let which = chance.below(3);
+    let mut change = |buffer: &mut Vec<i32>| {
+        if chance.one_in(2) {
+            buffer.push(1);
+        } else {
+            buffer.pop();
+        }
+    };
+    if which != 0 {
+        change(&mut first);
+    }
+    if which != 1 {
+        change(&mut second);
+    }
+    Case::Better(chance.below(2), first, second)
 }
