@@ -16,7 +16,7 @@ use Rattle.soft.specs.Calls.{ClassFigureRule, SoftRule}
 use Rattle.soft.proofs.Decided.{classFigure-once, soft-once}
 use Rattle.quick.specs.Quick.{QuickRule}
 use Rattle.quick.proofs.Rules.{quick-once}
-use Rattle.receivers.specs.Choices.{Chooses}
+use Rattle.receivers.specs.Calls.{Chooses}
 use Rattle.receivers.proofs.Decided.{choice-once}
 use Rattle.hands.specs.Hands.{HandsBack, HandsBackOne, HandsBackCandidates, itself}
 use Rattle.hands.proofs.Hands.{hands-decided, hands-one-decided, hands-candidates-decided}

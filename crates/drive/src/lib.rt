@@ -6,7 +6,7 @@ ghost use Rattle.hard.specs.Calls.{Finds, applyRule, Corrects};
 ghost use Rattle.favours.specs.Calls.{columnFigureRule};
 ghost use Rattle.soft.specs.Calls.{ClassFigureRule, SoftRule};
 ghost use Rattle.quick.specs.Quick.{QuickRule};
-ghost use Rattle.receivers.specs.Choices.{Chooses};
+ghost use Rattle.receivers.specs.Calls.{Chooses};
 ghost use Rattle.hands.specs.Hands.{HandsBack, HandsBackOne, HandsBackCandidates, itself};
 ghost use Rattle.onwords.specs.Outputs.{finding, correction};
 ghost use Rattle.onreadings.specs.Outputs.{values};

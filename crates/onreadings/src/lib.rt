@@ -2,7 +2,7 @@
 ghost use Rattle.favours.specs.Calls.{columnFigureRule};
 ghost use Rattle.soft.specs.Calls.{ClassFigureRule, SoftRule};
 ghost use Rattle.quick.specs.Quick.{QuickRule};
-ghost use Rattle.receivers.specs.Choices.{Chooses};
+ghost use Rattle.receivers.specs.Calls.{Chooses};
 ghost use Rattle.hands.specs.Hands.{HandsBack, HandsBackOne, itself};
 ghost use Rattle.onreadings.specs.Outputs.{values};
 use favours::kinds::ColumnFigureAnswer;
@@ -75,5 +75,5 @@ pub fn column_figure(reading: &[i32], class_number: u32, column: u32, figure: &m
 pub fn better(first: &[i32], second: &[i32], number: usize) -> u8
     ensures { λ r. ⌜ Chooses (now (first .entry)) (now (second .entry)) number r ⌝ }
 {
-    receivers::receiver_number(receivers::choice(first, second, number))
+    choices::receiver_number(receivers::choice(first, second, number))
 }

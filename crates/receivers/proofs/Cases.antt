@@ -1,6 +1,6 @@
 -- The worked choices (16.10) hold, one by one over their table: the soft decoder's answer to each worked reading is known.
 use mathlib.Core.Path.{_≡_, ap, ap₂, _∙_}
-use mathlib.Core.Bool.{cond, _&&_}
+use mathlib.Core.Bool.{cond}
 use mathlib.Core.List.{List, [], _∷_}
 use Prim.Native.Nat.{ℕ}
 use lib.Dec.{lit<, lit≤}
@@ -13,7 +13,8 @@ use Rattle.buffers.specs.Buffers.{holds, readingAt}
 use Rattle.soft.specs.declared.kinds.Soft.{Soft}
 use Rattle.soft.specs.Calls.{SoftRule}
 use Rattle.soft.proofs.Cases.{clean-answered, ones-answered, zeros-refused, one-against-refused}
-use Rattle.receivers.specs.Choices.{reserveOf, larger, Chooses}
+use Rattle.choices.specs.Choices.{reserveOf, larger}
+use Rattle.receivers.specs.Calls.{bothHold, Chooses}
 use Rattle.receivers.specs.Cases.{allTwos, workedFirst, workedSecond, Case, cases, Holds}
 
 -- the reserve of every answer to a reading
@@ -40,10 +41,10 @@ by-reserves :
     → HasReserve (readingAt second number) s
     → (k : ℕ)
     → Chooses first second number k
-    → k ≡ cond (holds first number && holds second number) (larger r s) 0
+    → k ≡ cond (bothHold first second number) (larger r s) 0
 by-reserves first second number f g k p =
     p .is
-    ∙ ap₂ (λ (x y : Answer ℤ). cond (holds first number && holds second number) (larger x y) 0)
+    ∙ ap₂ (λ (x y : Answer ℤ). cond (bothHold first second number) (larger x y) 0)
     (f (p .one) (p .one-allowed))
     (g (p .other) (p .other-allowed))
 

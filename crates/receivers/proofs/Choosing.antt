@@ -13,12 +13,13 @@ use Rattle.buffers.proofs.Holding.{begins-held}
 use Rattle.soft.specs.declared.kinds.Soft.{Soft}
 use Rattle.soft.specs.Calls.{SoftRule}
 use Rattle.soft.proofs.Decided.{soft-exists}
-use Rattle.receivers.specs.declared.kinds.Choice.{Choice}
-use Rattle.receivers.specs.declared.kinds.Choice.the-variants.{First, Second}
-use Rattle.receivers.specs.Choices.{receiver, reserveOf, larger, Chooses, LendsBetter}
+use Rattle.choices.specs.declared.kinds.Choice.{Choice}
+use Rattle.choices.specs.declared.kinds.Choice.the-variants.{First, Second}
+use Rattle.choices.specs.Choices.{receiver, reserveOf, larger}
+use Rattle.receivers.specs.Calls.{bothHold, Chooses, LendsBetter}
 
 module _ (first second : List ℤ) (number : ℕ) where
-  pub no-pair : (holds first number && holds second number) ≡ false → Chooses first second number 0
+  pub no-pair : bothHold first second number ≡ false → Chooses first second number 0
   no-pair e =
       let a = soft-exists (readingAt first number) in
       let b = soft-exists (readingAt second number) in

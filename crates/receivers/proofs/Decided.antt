@@ -1,20 +1,19 @@
 -- Two choices that a promise allows are equal, and so are two parts: each reading has one answer of the soft decoder.
-use mathlib.Core.Path.{_≡_, refl, sym, ap, ap₂, _∙_}
-use mathlib.Core.Bool.{cond, _&&_}
+use mathlib.Core.Path.{_≡_, sym, ap, ap₂, _∙_}
+use mathlib.Core.Bool.{cond}
 use mathlib.Core.List.{List}
 use Prim.Native.Nat.{ℕ}
-use lib.Dec.{eqb}
 use lib.IntN.{ℤ}
 use denote.Ref.{RefT, ptr, now}
 use Rattle.golay.specs.Answers.{Answer}
-use Rattle.golay.proofs.Decided.{said-once}
-use Rattle.buffers.specs.Buffers.{holds, readingAt}
+use Rattle.buffers.specs.Buffers.{readingAt}
 use Rattle.soft.specs.declared.kinds.Soft.{Soft}
 use Rattle.soft.specs.Calls.{SoftRule}
 use Rattle.soft.proofs.Decided.{soft-once}
-use Rattle.receivers.specs.declared.kinds.Choice.{Choice}
-use Rattle.receivers.specs.declared.kinds.Choice.the-variants.{First, Second, Neither}
-use Rattle.receivers.specs.Choices.{receiver, reserveOf, larger, Chooses, partOf, Better, beginsAt, LendsBetter}
+use Rattle.choices.specs.declared.kinds.Choice.{Choice}
+use Rattle.choices.specs.Choices.{receiver, reserveOf, larger}
+use Rattle.choices.proofs.Decided.{receiver-once}
+use Rattle.receivers.specs.Calls.{bothHold, Chooses, partOf, Better, beginsAt, LendsBetter}
 
 -- the choice, by whichever answers the soft decoder's promise allows
 pub chosen :
@@ -22,10 +21,10 @@ pub chosen :
     → Chooses first second number choice
     → SoftRule (readingAt first number) a
     → SoftRule (readingAt second number) b
-    → choice ≡ cond (holds first number && holds second number) (larger (reserveOf a) (reserveOf b)) 0
+    → choice ≡ cond (bothHold first second number) (larger (reserveOf a) (reserveOf b)) 0
 chosen {first} {second} {number} a b p r s =
     p .is
-    ∙ ap₂ (λ (x y : Answer Soft). cond (holds first number && holds second number) (larger (reserveOf x) (reserveOf y)) 0)
+    ∙ ap₂ (λ (x y : Answer Soft). cond (bothHold first second number) (larger (reserveOf x) (reserveOf y)) 0)
     (soft-once (readingAt first number) (p .one) a (p .one-allowed) r)
     (soft-once (readingAt second number) (p .other) b (p .other-allowed) s)
 
@@ -49,17 +48,7 @@ better-decided {first} {second} {number = number} p q = (
       ∙ sym (q .begins),
 )
 
--- ---- of the call's own answer, which is made again from its number
-
-again : ℕ → Choice
-again n = cond (eqb n 1) First (cond (eqb n 2) Second Neither)
-
-back : (c : Choice) → again (receiver c) ≡ c
-unfolding again
-back First = refl
-back Second = refl
-back Neither = refl
-
+-- of the call's own answer
 pub choice-decided : (first second : List ℤ) (number : ℕ) (x y : Choice)
     → Chooses first second number (receiver x) → Chooses first second number (receiver y) → x ≡ y
-choice-decided first second number x y p q = said-once receiver again back x y (choice-once p q) refl
+choice-decided first second number x y p q = receiver-once x y (choice-once p q)

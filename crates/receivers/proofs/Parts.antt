@@ -19,7 +19,8 @@ use Rattle.buffers.proofs.Holding.{not-whole, whole-holds, held-below}
 use Rattle.soft.specs.declared.kinds.Soft.{Soft}
 use Rattle.soft.specs.Calls.{SoftRule}
 use Rattle.soft.proofs.Decided.{soft-once}
-use Rattle.receivers.specs.Choices.{reserveOf, larger, partOf, Better}
+use Rattle.choices.specs.Choices.{reserveOf, larger}
+use Rattle.receivers.specs.Calls.{bothHold, partOf, Better}
 use Rattle.receivers.proofs.Decided.{chosen}
 
 -- ---- of one reading
@@ -47,7 +48,7 @@ NoLarger xs x = (y : Soft) → SoftRule xs (accepted y) → y .reserve ≤ℤ x 
 
 -- a part, by what it comes from
 data Comes (first second : List ℤ) (number : ℕ) (part : List ℤ) : Type 0 where
-  apart : (holds first number && holds second number) ≡ false → part ≡ [] → Comes first second number part
+  apart : bothHold first second number ≡ false → part ≡ [] → Comes first second number part
   neither :
       (m n : ℕ)
       → SoftRule (readingAt first number) (refused m)
@@ -69,7 +70,7 @@ data Comes (first second : List ℤ) (number : ℕ) (part : List ℤ) : Type 0 w
 
 module _ {first second : List ℤ} {number : ℕ} {part : List ℤ} (p : Better first second number part) where
   comes : Comes first second number part
-  comes = go (holds first number && holds second number) refl (p .chooses .one) (p .chooses .other) (p .chooses .one-allowed) (p .chooses .other-allowed) (p .is ∙ ap (partOf first second number) (p .chooses .is))
+  comes = go (bothHold first second number) refl (p .chooses .one) (p .chooses .other) (p .chooses .one-allowed) (p .chooses .other-allowed) (p .is ∙ ap (partOf first second number) (p .chooses .is))
     where
       compared :
           (x y : Soft) (l : Bool)
@@ -83,7 +84,7 @@ module _ {first second : List ℤ} {number : ℕ} {part : List ℤ} (p : Better 
 
       go :
           (t : Bool)
-          → (holds first number && holds second number) ≡ t
+          → bothHold first second number ≡ t
           → (a b : Answer Soft)
           → SoftRule (readingAt first number) a
           → SoftRule (readingAt second number) b
@@ -119,7 +120,7 @@ module _ {first second : List ℤ} {number : ℕ} {part : List ℤ} (p : Better 
           let e = same-reserve (readingAt second number) z r x (rw is at a) in
           (λ y s. let f = h y s in omega ints, λ y s. let f = same-reserve (readingAt second number) z r y s in omega ints)
 
-  apart-empty : (holds first number && holds second number) ≡ false → part ≡ []
+  apart-empty : bothHold first second number ≡ false → part ≡ []
   apart-empty e = let c : p .choice ≡ 0 = p .chooses .is ∙ simp e in p .is ∙ ap (partOf first second number) c
 
 -- ---- when it is empty
@@ -145,7 +146,7 @@ module _ (first second : List ℤ) (number : ℕ) where
   below-both true false a b e = let h = ltb-false number (length second / 24) b in omega arith
   below-both false u a b e = let h = ltb-false number (length first / 24) a in omega arith
 
-  apart-reason : (holds first number && holds second number) ≡ false → NoBetter first second number
+  apart-reason : bothHold first second number ≡ false → NoBetter first second number
   apart-reason e = go (ℕ-discrete (length first % positions) 0) (ℕ-discrete (length second % positions) 0)
     where
       go : Dec (length first % positions ≡ 0) → Dec (length second % positions ≡ 0) → NoBetter first second number
@@ -153,7 +154,7 @@ module _ (first second : List ℤ) (number : ℕ) where
       go (yes f) (no d) = second-not-whole d
       go (yes f) (yes s) = beyond (below-both _ _ refl refl (rw (whole-holds first number f, whole-holds second number s) at e))
 
-  beyond-apart : shorter first second ≤ number → (holds first number && holds second number) ≡ false
+  beyond-apart : shorter first second ≤ number → bothHold first second number ≡ false
   beyond-apart h = go (holds first number) (holds second number) refl refl
     where
       go : (t u : Bool) → holds first number ≡ t → holds second number ≡ u → (t && u) ≡ false

@@ -6,7 +6,7 @@ use lib.IntN.{ℤ, pos}
 use lib.ListN.{replicate}
 use Rattle.code.specs.Code.{positions}
 use Rattle.reading.specs.Cases.{allOnes, allZeros, oneAgainst}
-use Rattle.receivers.specs.Choices.{Chooses}
+use Rattle.receivers.specs.Calls.{Chooses}
 
 -- Rule 16.10: all 2
 abbrev pub allTwos : List ℤ

@@ -1,2 +1,2 @@
-pub mod Choices
+pub mod Calls
 pub mod Cases

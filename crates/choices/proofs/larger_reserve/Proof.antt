@@ -1,4 +1,4 @@
--- `receivers::larger_reserve` meets its contract, case by case. Two accepted answers are told apart by the test of their reserves.
+-- `choices::larger_reserve` meets its contract, case by case. Two accepted answers are told apart by the test of their reserves.
 use mathlib.Core.Path.{_≡_, refl, sym}
 use mathlib.Core.Bool.{Bool, true, false, cond}
 use borrow.Author.Needs.{needs}
@@ -10,9 +10,9 @@ use Rattle.soft.specs.declared.kinds.Soft.{Soft}
 use Rattle.soft.specs.declared.kinds.SoftAnswer.{SoftAnswer}
 use Rattle.soft.specs.declared.kinds.SoftAnswer.the-variants.{Accepted}
 use Rattle.soft.specs.Answers.{softAnswer}
-use Rattle.receivers.specs.Choices.{reserveOf, larger}
-use Rattle.receivers.proofs.larger_reserve.Statement.{statement}
-use Rattle.receivers.proofs.larger_reserve.Tie as tie
+use Rattle.choices.specs.Choices.{reserveOf, larger}
+use Rattle.choices.proofs.larger_reserve.Statement.{statement}
+use Rattle.choices.proofs.larger_reserve.Tie as tie
 
 compared :
     {x y : SoftAnswer} {s t : Soft}
