@@ -57,12 +57,12 @@ int main(void)
 {
     struct receiver roof = { "roof", { 0 } }, door = { "door", { 0 } };
     hear(&roof, 0, 1500, 90000);
-    hear(&door, 0, 1500, 300);
-    hear(&roof, 1, 1501, 200); /* a truck stands before the antenna */
+    hear(&door, 0, 1500, 7000);
+    hear(&roof, 1, 1510, 200); /* ice on the antenna */
     hear(&door, 1, 1510, 7000);
-    hear(&door, 2, 1520, 7000); /* the roof receiver is silent: all its words tie */
-    roof.buffer[3 * CONFIDENCES] = INT32_MIN; /* no confidence; and the other one is silent */
-    for (size_t number = 0; number <= READINGS; number++) /* the last has no reading */
+    hear(&door, 2, 1520, 7000);               /* the roof receiver is silent: every word ties */
+    roof.buffer[3 * CONFIDENCES] = INT32_MIN; /* a fault, and the door receiver is silent */
+    for (size_t number = 0; number <= READINGS; number++) /* the last one is in neither buffer */
         choose(&roof, &door, number);
     return 0;
 }
