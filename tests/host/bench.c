@@ -19,6 +19,7 @@
 enum { READINGS = 64, SLOTS = 6, WORD_BYTES = 3, CLASSES = 128, COLUMNS = 6, LAST_REFUSAL = 18, STACK = 1 << 18, PAINT = 0xC5 };
 
 static int32_t readings[READINGS][POSITIONS];
+static int32_t others[READINGS][POSITIONS]; /* a second receiver's */
 static uint32_t numbers[READINGS];
 static uint32_t columns[READINGS];
 static uint32_t codewords[READINGS];
@@ -31,6 +32,8 @@ static void prepare(enum kind kind)
         garthumor_encode(numbers[r] % 4096, &codewords[r]);
         fill_reading(readings[r], kind, codewords[r]);
     }
+    for (int r = 0; r < READINGS; r++)
+        fill_reading(others[r], kind, codewords[r]);
 }
 
 /* The outputs go where the compiler cannot leave a call out. */
@@ -51,8 +54,7 @@ static uint8_t class_figure(int r) { return garthumor_class_figure(readings[r], 
 static uint8_t column_figure(int r) { return garthumor_column_figure(readings[r], POSITIONS, numbers[r] % CLASSES, columns[r], &wide); }
 static uint8_t soft(int r) { return garthumor_soft(readings[r], POSITIONS, &one, &other, &wide, &more); }
 static uint8_t quick(int r) { return garthumor_quick(readings[r], POSITIONS, &one); }
-/* Two receivers' buffers: all readings but the last, and all but the first. */
-static uint8_t better(int r) { return garthumor_better(readings[0], (READINGS - 1) * POSITIONS, readings[1], (READINGS - 1) * POSITIONS, r % (READINGS - 1)); }
+static uint8_t better(int r) { return garthumor_better(readings[0], READINGS * POSITIONS, others[0], READINGS * POSITIONS, (size_t)r); }
 static uint8_t write_bytes(int r) { return garthumor_write_bytes(codewords[r], bytes, WORD_BYTES); }
 static uint8_t read_bytes(int r) { return (void)r, garthumor_read_bytes(bytes, WORD_BYTES, &one); }
 static uint8_t field(int r) { return (uint8_t)field_decode(readings[r]); }
