@@ -1,5 +1,5 @@
 -- What it is in numbers that a buffer holds a reading; what the reading's part is, and where it begins.
-use mathlib.Core.Path.{_≡_, refl, ap}
+use mathlib.Core.Path.{_≡_, ap}
 use mathlib.Core.Logic.{_≢_}
 use mathlib.Core.Bool.{Bool, true, false, cond, _&&_}
 use mathlib.Core.List.{List, []}
@@ -8,33 +8,27 @@ use native.Mathlib.Omega.{arith}
 use lib.Dec.{eqb, ltb}
 use lib.IntN.{ℤ}
 use lib.ListN.{length, take, drop}
-use borrow.Author.Tests.{eq-eqb, ne-eqb, eqb-true, ltb-true}
+use borrow.Author.Tests.{eq-eqb, ne-eqb, ltb-true}
 use Rattle.code.specs.Code.{positions}
-use Rattle.buffers.specs.Buffers.{holds, readingAt, placeAt}
+use Rattle.buffers.specs.Buffers.{hasReading, readingAt, placeAt}
 
-pub both-true : (a b : Bool) → (a && b) ≡ true → (a ≡ true) × (b ≡ true)
-both-true true b e = (refl, e)
-both-true false b e = let z : _≡_ {A = ℕ} 0 1 = cc in absurd (omega arith)
+second-true : (a b : Bool) → (a && b) ≡ true → b ≡ true
+second-true true b e = e
+second-true false b e = let z : _≡_ {A = ℕ} 0 1 = cc in absurd (omega arith)
 
 module _ (buffer : List ℤ) (number : ℕ) where
-  pub whole-holds : length buffer % positions ≡ 0 → holds buffer number ≡ ltb number (length buffer / positions)
-  unfolding holds
-  whole-holds e = simp (eq-eqb (length buffer % 24) 0 e)
+  pub whole-has : length buffer % positions ≡ 0 → hasReading buffer number ≡ ltb number (length buffer / positions)
+  unfolding hasReading
+  whole-has e = simp (eq-eqb (length buffer % 24) 0 e)
 
-  pub not-whole : length buffer % positions ≢ 0 → holds buffer number ≡ false
-  unfolding holds
+  pub not-whole : length buffer % positions ≢ 0 → hasReading buffer number ≡ false
+  unfolding hasReading
   not-whole d = simp (ne-eqb (length buffer % 24) 0 d)
 
-  module _ (e : holds buffer number ≡ true) where
-    tests : (eqb (length buffer % positions) 0 ≡ true) × (ltb number (length buffer / positions) ≡ true)
-    unfolding holds
-    tests = both-true _ _ e
-
-    pub held-whole : length buffer % positions ≡ 0
-    held-whole = eqb-true (length buffer % positions) 0 (tests .0)
-
+  module _ (e : hasReading buffer number ≡ true) where
     pub held-below : number < length buffer / positions
-    held-below = ltb-true number (length buffer / positions) (tests .1)
+    unfolding hasReading
+    held-below = ltb-true number (length buffer / positions) (second-true (eqb (length buffer % positions) 0) (ltb number (length buffer / positions)) e)
 
     pub held-room : 24 * number + 24 ≤ length buffer
     held-room = omega (arith, held-below)
@@ -43,15 +37,15 @@ module _ (buffer : List ℤ) (number : ℕ) where
     unfolding readingAt
     reading-held = simp e
 
-    pub begins-held : (at : ℕ × ℕ) → cond (holds buffer number) (placeAt at number) at ≡ placeAt at number
+    pub begins-held : (at : ℕ × ℕ) → cond (hasReading buffer number) (placeAt at number) at ≡ placeAt at number
     begins-held at = simp e
 
-  module _ (e : holds buffer number ≡ false) where
+  module _ (e : hasReading buffer number ≡ false) where
     pub reading-none : readingAt buffer number ≡ []
     unfolding readingAt
     reading-none = simp e
 
-    pub begins-none : (at : ℕ × ℕ) → cond (holds buffer number) (placeAt at number) at ≡ at
+    pub begins-none : (at : ℕ × ℕ) → cond (hasReading buffer number) (placeAt at number) at ≡ at
     begins-none at = simp e
 
 -- a part from the first place on begins where the buffer does

@@ -6,8 +6,8 @@ ghost use Rattle.buffers.specs.Buffers.{LendsReading};
 use golay::POSITIONS;
 
 // Whether the buffer is whole and has a reading with this number. It is asked before any place is computed: 24 times a number may not fit.
-pub fn holds(buffer: &[i32], number: usize) -> bool
-    ensures { λ r. ⌜ r ≡ specs.holds (now (buffer .entry)) number ⌝ }
+pub fn has_reading(buffer: &[i32], number: usize) -> bool
+    ensures { λ r. ⌜ r ≡ specs.hasReading (now (buffer .entry)) number ⌝ }
 {
     if buffer.len() % POSITIONS != 0 {
         return false;
@@ -19,7 +19,7 @@ pub fn holds(buffer: &[i32], number: usize) -> bool
 pub fn reading_at<'a>(buffer: &'a [i32], number: usize) -> &'a [i32]
     ensures { λ r. ⌜ LendsReading (buffer .entry) number r ⌝ }
 {
-    if !holds(buffer, number) {
+    if !has_reading(buffer, number) {
         return &buffer[0..0];
     }
     let from = POSITIONS * number;

@@ -8,7 +8,7 @@ use Rattle.golay.proofs.Decided.{said-once}
 use Rattle.soft.specs.declared.kinds.Soft.{Soft}
 use Rattle.choices.specs.declared.kinds.Choice.{Choice}
 use Rattle.choices.specs.declared.kinds.Choice.the-variants.{First, Second, Neither}
-use Rattle.choices.specs.Choices.{receiver, reserveOf, larger}
+use Rattle.choices.specs.Choices.{receiver, reserveOf, preferred}
 
 again : ℕ → Choice
 again n = cond (eqb n 1) First (cond (eqb n 2) Second Neither)
@@ -22,6 +22,6 @@ back Neither = refl
 pub receiver-once : (x y : Choice) → receiver x ≡ receiver y → x ≡ y
 receiver-once x y e = said-once receiver again back x y e refl
 
-pub larger-decided : (a b : Answer Soft) (x y : Choice)
-    → receiver x ≡ larger (reserveOf a) (reserveOf b) → receiver y ≡ larger (reserveOf a) (reserveOf b) → x ≡ y
-larger-decided a b = said-once receiver again back
+pub preferred-decided : (a b : Answer Soft) (x y : Choice)
+    → receiver x ≡ preferred (reserveOf a) (reserveOf b) → receiver y ≡ preferred (reserveOf a) (reserveOf b) → x ≡ y
+preferred-decided a b = said-once receiver again back

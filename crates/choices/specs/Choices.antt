@@ -20,8 +20,8 @@ reserveOf (accepted s) = accepted (s .reserve)
 reserveOf (refused n) = refused n
 
 -- Rule 17.3: of two reserves the larger, the first where they are equal; the one that there is; or neither
-abbrev pub larger : Answer ℤ → Answer ℤ → ℕ
-larger (accepted r) (accepted s) = cond (leZ s r) 1 2
-larger (accepted r) (refused n) = 1
-larger (refused m) (accepted s) = 2
-larger (refused m) (refused n) = 0
+abbrev pub preferred : Answer ℤ → Answer ℤ → ℕ
+preferred (accepted r) (accepted s) = cond (leZ s r) 1 2
+preferred (accepted r) (refused n) = 1
+preferred (refused m) (accepted s) = 2
+preferred (refused m) (refused n) = 0

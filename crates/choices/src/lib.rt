@@ -1,7 +1,7 @@
 // The choice between two answers of the soft decoder, by their reserves. Both functions answer for every input.
 ghost use mathlib.Core.Path.{_≡_};
 ghost use Rattle.soft.specs.Answers.{softAnswer};
-ghost use Rattle.choices.specs.Choices.{receiver, reserveOf, larger};
+ghost use Rattle.choices.specs.Choices.{receiver, reserveOf, preferred};
 
 pub mod kinds;
 
@@ -10,7 +10,7 @@ use soft::kinds::SoftAnswer;
 
 // The answer with the larger reserve, the first where they are equal; a refusal has none (rule 17.3).
 pub fn larger_reserve(first: SoftAnswer, second: SoftAnswer) -> Choice
-    ensures { λ r. ⌜ receiver r ≡ larger (reserveOf (softAnswer first)) (reserveOf (softAnswer second)) ⌝ }
+    ensures { λ r. ⌜ receiver r ≡ preferred (reserveOf (softAnswer first)) (reserveOf (softAnswer second)) ⌝ }
 {
     match first {
         SoftAnswer::Accepted(one) => match second {

@@ -1,21 +1,21 @@
 // For the tests alone: prints the part that `better` hands back, a line for each case on standard input (tests/second/parts.rs has the format).
-ghost use Prim.Native.Nat.{_+_, _*_, _^_, _≤_, _<_};
 ghost use mathlib.Core.Path.{_≡_};
+ghost use Prim.Native.Nat.{_+_, _^_, _≤_, _<_};
 ghost use lib.ListN.{length};
 use golay::POSITIONS;
 use libc::STDIN_FILENO;
 use libc::STDOUT_FILENO;
 use records::RECORD;
 
-// Six readings.
-const BUFFER: usize = 144;
-
-// Where the first buffer's records begin, and the second one's; where the case ends.
+// A case: the reading's number in eight bytes, the two buffers' lengths in a byte each, six records for the first, six for the second.
 const FIRST: usize = 10;
 
 const SECOND: usize = 598;
 
 const CASE: usize = 1_186;
+
+// Six readings.
+const BUFFER: usize = 144;
 
 // No run has so many cases; the loop needs a bound to be proved to end.
 const MOST_CASES: u32 = 1_000_000;

@@ -9,12 +9,12 @@ use Rattle.code.specs.Code.{codewordOf}
 use Rattle.golay.specs.Answers.{Answer, accepted, refused}
 use Rattle.reading.specs.Cases.{allOnes, allZeros, oneAgainst}
 use Rattle.classes.specs.Codewords.{word}
-use Rattle.buffers.specs.Buffers.{holds, readingAt}
+use Rattle.buffers.specs.Buffers.{hasReading, readingAt}
 use Rattle.soft.specs.declared.kinds.Soft.{Soft}
 use Rattle.soft.specs.Calls.{SoftRule}
 use Rattle.soft.proofs.Cases.{clean-answered, ones-answered, zeros-refused, one-against-refused}
-use Rattle.choices.specs.Choices.{reserveOf, larger}
-use Rattle.receivers.specs.Calls.{bothHold, Chooses}
+use Rattle.choices.specs.Choices.{reserveOf, preferred}
+use Rattle.receivers.specs.Calls.{bothHave, Chooses}
 use Rattle.receivers.specs.Cases.{allTwos, workedFirst, workedSecond, Case, cases, Holds}
 
 -- the reserve of every answer to a reading
@@ -41,10 +41,10 @@ by-reserves :
     → HasReserve (readingAt second number) s
     → (k : ℕ)
     → Chooses first second number k
-    → k ≡ cond (bothHold first second number) (larger r s) 0
+    → k ≡ cond (bothHave first second number) (preferred r s) 0
 by-reserves first second number f g k p =
     p .is
-    ∙ ap₂ (λ (x y : Answer ℤ). cond (bothHold first second number) (larger x y) 0)
+    ∙ ap₂ (λ (x y : Answer ℤ). cond (bothHave first second number) (preferred x y) 0)
     (f (p .one) (p .one-allowed))
     (g (p .other) (p .other-allowed))
 
@@ -53,7 +53,7 @@ AllHold [] = Unit {0}
 AllHold (c ∷ cs) = Holds c × AllHold cs
 
 pub cases-hold : AllHold cases
-unfolding holds readingAt workedFirst workedSecond
+unfolding hasReading readingAt workedFirst workedSecond
 cases-hold = (
   (by-reserves workedFirst workedSecond 0 ones twos, by-reserves workedSecond workedFirst 0 twos ones),
   (

@@ -8,39 +8,39 @@ use lib.Dec.{lit<}
 use lib.IntN.{ℤ}
 use denote.Ref.{RefT, ptr, now}
 use Rattle.golay.specs.Answers.{Answer}
-use Rattle.buffers.specs.Buffers.{holds, readingAt, LendsReading}
+use Rattle.buffers.specs.Buffers.{hasReading, readingAt, LendsReading}
 use Rattle.buffers.proofs.Holding.{begins-held}
 use Rattle.soft.specs.declared.kinds.Soft.{Soft}
 use Rattle.soft.specs.Calls.{SoftRule}
 use Rattle.soft.proofs.Decided.{soft-exists}
 use Rattle.choices.specs.declared.kinds.Choice.{Choice}
 use Rattle.choices.specs.declared.kinds.Choice.the-variants.{First, Second}
-use Rattle.choices.specs.Choices.{receiver, reserveOf, larger}
-use Rattle.receivers.specs.Calls.{bothHold, Chooses, LendsBetter}
+use Rattle.choices.specs.Choices.{receiver, reserveOf, preferred}
+use Rattle.receivers.specs.Calls.{bothHave, Chooses, LendsBetter}
 
 module _ (first second : List ℤ) (number : ℕ) where
-  pub no-pair : bothHold first second number ≡ false → Chooses first second number 0
+  pub no-pair : bothHave first second number ≡ false → Chooses first second number 0
   no-pair e =
       let a = soft-exists (readingAt first number) in
       let b = soft-exists (readingAt second number) in
       record { one = a .0; other = b .0; one-allowed = a .1; other-allowed = b .1; is = simp e }
 
   pub a-pair :
-      holds first number ≡ true
-      → holds second number ≡ true
+      hasReading first number ≡ true
+      → hasReading second number ≡ true
       → (a b : Answer Soft)
       → SoftRule (readingAt first number) a
       → SoftRule (readingAt second number) b
       → {choice : ℕ}
-      → choice ≡ larger (reserveOf a) (reserveOf b)
+      → choice ≡ preferred (reserveOf a) (reserveOf b)
       → Chooses first second number choice
   a-pair e f a b r s is = record { one = a; other = b; one-allowed = r; other-allowed = s; is = simp (e, f) is }
 
 -- a receiver is chosen only where both buffers hold the reading
-pub pair-held : {first second : List ℤ} {number choice : ℕ} → Chooses first second number choice → 0 < choice → (holds first number ≡ true) × (holds second number ≡ true)
-pair-held {first} {second} {number} {choice} p h = go (holds first number) (holds second number) (p .is)
+pub pair-held : {first second : List ℤ} {number choice : ℕ} → Chooses first second number choice → 0 < choice → (hasReading first number ≡ true) × (hasReading second number ≡ true)
+pair-held {first} {second} {number} {choice} p h = go (hasReading first number) (hasReading second number) (p .is)
   where
-    go : (a b : Bool) → choice ≡ cond (a && b) (larger (reserveOf (p .one)) (reserveOf (p .other))) 0 → (a ≡ true) × (b ≡ true)
+    go : (a b : Bool) → choice ≡ cond (a && b) (preferred (reserveOf (p .one)) (reserveOf (p .other))) 0 → (a ≡ true) × (b ≡ true)
     go true true e = (refl, refl)
     go true false e = absurd (omega arith)
     go false b e = absurd (omega arith)

@@ -11,26 +11,26 @@ use Rattle.soft.specs.declared.kinds.Soft.{Soft}
 use Rattle.soft.specs.Calls.{SoftRule}
 use Rattle.soft.proofs.Decided.{soft-once}
 use Rattle.choices.specs.declared.kinds.Choice.{Choice}
-use Rattle.choices.specs.Choices.{receiver, reserveOf, larger}
+use Rattle.choices.specs.Choices.{receiver, reserveOf, preferred}
 use Rattle.choices.proofs.Decided.{receiver-once}
-use Rattle.receivers.specs.Calls.{bothHold, Chooses, partOf, Better, beginsAt, LendsBetter}
+use Rattle.receivers.specs.Calls.{bothHave, Chooses, partOf, Better, beginsAt, LendsBetter}
 
 -- the choice, by whichever answers the soft decoder's promise allows
-pub chosen :
+pub choice-by :
     {first second : List ℤ} {number choice : ℕ} (a b : Answer Soft)
     → Chooses first second number choice
     → SoftRule (readingAt first number) a
     → SoftRule (readingAt second number) b
-    → choice ≡ cond (bothHold first second number) (larger (reserveOf a) (reserveOf b)) 0
-chosen {first} {second} {number} a b p r s =
+    → choice ≡ cond (bothHave first second number) (preferred (reserveOf a) (reserveOf b)) 0
+choice-by {first} {second} {number} a b p r s =
     p .is
-    ∙ ap₂ (λ (x y : Answer Soft). cond (bothHold first second number) (larger (reserveOf x) (reserveOf y)) 0)
+    ∙ ap₂ (λ (x y : Answer Soft). cond (bothHave first second number) (preferred (reserveOf x) (reserveOf y)) 0)
     (soft-once (readingAt first number) (p .one) a (p .one-allowed) r)
     (soft-once (readingAt second number) (p .other) b (p .other-allowed) s)
 
 module _ {first second : List ℤ} {number : ℕ} where
   pub choice-once : {c d : ℕ} → Chooses first second number c → Chooses first second number d → c ≡ d
-  choice-once p q = chosen (q .one) (q .other) p (q .one-allowed) (q .other-allowed) ∙ sym (q .is)
+  choice-once p q = choice-by (q .one) (q .other) p (q .one-allowed) (q .other-allowed) ∙ sym (q .is)
 
   pub better-once : {part other : List ℤ} → Better first second number part → Better first second number other → part ≡ other
   better-once p q = p .is ∙ ap (partOf first second number) (choice-once (p .chooses) (q .chooses)) ∙ sym (q .is)

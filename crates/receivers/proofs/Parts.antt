@@ -9,19 +9,19 @@ use native.Mathlib.Decide.{ℕ-discrete}
 use lib.Dec.{ltb}
 use lib.IntN.{ℤ}
 use lib.ListN.{length}
-use lib.Signed.{leZ, _≤ℤ_, ≤ℤ-refl}
+use lib.Signed.{leZ, _≤ℤ_}
 use borrow.Author.Tests.{ltb-false}
 use Rattle.signed.proofs.Parts.{ints, le-true, le-false}
 use Rattle.code.specs.Code.{positions}
 use Rattle.golay.specs.Answers.{Answer, accepted, refused}
-use Rattle.buffers.specs.Buffers.{holds, readingAt}
-use Rattle.buffers.proofs.Holding.{not-whole, whole-holds, held-below}
+use Rattle.buffers.specs.Buffers.{hasReading, readingAt}
+use Rattle.buffers.proofs.Holding.{not-whole, whole-has, held-below}
 use Rattle.soft.specs.declared.kinds.Soft.{Soft}
 use Rattle.soft.specs.Calls.{SoftRule}
 use Rattle.soft.proofs.Decided.{soft-once}
-use Rattle.choices.specs.Choices.{reserveOf, larger}
-use Rattle.receivers.specs.Calls.{bothHold, partOf, Better}
-use Rattle.receivers.proofs.Decided.{chosen}
+use Rattle.choices.specs.Choices.{reserveOf, preferred}
+use Rattle.receivers.specs.Calls.{bothHave, partOf, Better}
+use Rattle.receivers.proofs.Decided.{choice-by}
 
 -- ---- of one reading
 
@@ -48,7 +48,7 @@ NoLarger xs x = (y : Soft) → SoftRule xs (accepted y) → y .reserve ≤ℤ x 
 
 -- a part, by what it comes from
 data Comes (first second : List ℤ) (number : ℕ) (part : List ℤ) : Type 0 where
-  apart : bothHold first second number ≡ false → part ≡ [] → Comes first second number part
+  apart : bothHave first second number ≡ false → part ≡ [] → Comes first second number part
   neither :
       (m n : ℕ)
       → SoftRule (readingAt first number) (refused m)
@@ -70,7 +70,7 @@ data Comes (first second : List ℤ) (number : ℕ) (part : List ℤ) : Type 0 w
 
 module _ {first second : List ℤ} {number : ℕ} {part : List ℤ} (p : Better first second number part) where
   comes : Comes first second number part
-  comes = go (bothHold first second number) refl (p .chooses .one) (p .chooses .other) (p .chooses .one-allowed) (p .chooses .other-allowed) (p .is ∙ ap (partOf first second number) (p .chooses .is))
+  comes = go (bothHave first second number) refl (p .chooses .one) (p .chooses .other) (p .chooses .one-allowed) (p .chooses .other-allowed) (p .is ∙ ap (partOf first second number) (p .chooses .is))
     where
       compared :
           (x y : Soft) (l : Bool)
@@ -84,11 +84,11 @@ module _ {first second : List ℤ} {number : ℕ} {part : List ℤ} (p : Better 
 
       go :
           (t : Bool)
-          → bothHold first second number ≡ t
+          → bothHave first second number ≡ t
           → (a b : Answer Soft)
           → SoftRule (readingAt first number) a
           → SoftRule (readingAt second number) b
-          → part ≡ partOf first second number (cond t (larger (reserveOf a) (reserveOf b)) 0)
+          → part ≡ partOf first second number (cond t (preferred (reserveOf a) (reserveOf b)) 0)
           → Comes first second number part
       go false e a b r s is = apart e is
       go true e (accepted x) (accepted y) r s is = compared x y (leZ (y .reserve) (x .reserve)) refl r s is
@@ -107,8 +107,8 @@ module _ {first second : List ℤ} {number : ℕ} {part : List ℤ} (p : Better 
       go (of-second x r h is) = inr (x, rw is r)
 
   -- Rule 17.6: and no reading of the pair is accepted with a larger reserve
-  pub none-larger : (x : Soft) → SoftRule part (accepted x) → NoLarger (readingAt first number) x × NoLarger (readingAt second number) x
-  none-larger x a = go comes
+  pub none-preferred : (x : Soft) → SoftRule part (accepted x) → NoLarger (readingAt first number) x × NoLarger (readingAt second number) x
+  none-preferred x a = go comes
     where
       go : Comes first second number part → NoLarger (readingAt first number) x × NoLarger (readingAt second number) x
       go (apart e is) = never-empty x (rw is at a)
@@ -120,7 +120,7 @@ module _ {first second : List ℤ} {number : ℕ} {part : List ℤ} (p : Better 
           let e = same-reserve (readingAt second number) z r x (rw is at a) in
           (λ y s. let f = h y s in omega ints, λ y s. let f = same-reserve (readingAt second number) z r y s in omega ints)
 
-  apart-empty : bothHold first second number ≡ false → part ≡ []
+  apart-empty : bothHave first second number ≡ false → part ≡ []
   apart-empty e = let c : p .choice ≡ 0 = p .chooses .is ∙ simp e in p .is ∙ ap (partOf first second number) c
 
 -- ---- when it is empty
@@ -146,18 +146,18 @@ module _ (first second : List ℤ) (number : ℕ) where
   below-both true false a b e = let h = ltb-false number (length second / 24) b in omega arith
   below-both false u a b e = let h = ltb-false number (length first / 24) a in omega arith
 
-  apart-reason : bothHold first second number ≡ false → NoBetter first second number
+  apart-reason : bothHave first second number ≡ false → NoBetter first second number
   apart-reason e = go (ℕ-discrete (length first % positions) 0) (ℕ-discrete (length second % positions) 0)
     where
       go : Dec (length first % positions ≡ 0) → Dec (length second % positions ≡ 0) → NoBetter first second number
       go (no d) s = first-not-whole d
       go (yes f) (no d) = second-not-whole d
-      go (yes f) (yes s) = beyond (below-both _ _ refl refl (rw (whole-holds first number f, whole-holds second number s) at e))
+      go (yes f) (yes s) = beyond (below-both _ _ refl refl (rw (whole-has first number f, whole-has second number s) at e))
 
-  beyond-apart : shorter first second ≤ number → bothHold first second number ≡ false
-  beyond-apart h = go (holds first number) (holds second number) refl refl
+  beyond-apart : shorter first second ≤ number → bothHave first second number ≡ false
+  beyond-apart h = go (hasReading first number) (hasReading second number) refl refl
     where
-      go : (t u : Bool) → holds first number ≡ t → holds second number ≡ u → (t && u) ≡ false
+      go : (t u : Bool) → hasReading first number ≡ t → hasReading second number ≡ u → (t && u) ≡ false
       go false u e f = refl
       go true false e f = refl
       go true true e f =
@@ -181,7 +181,7 @@ module _ {first second : List ℤ} {number : ℕ} where
 
   pub reason-empty : {part : List ℤ} → NoBetter first second number → Better first second number part → part ≡ []
   reason-empty (first-not-whole d) p = apart-empty p (rw (not-whole first number d) refl)
-  reason-empty (second-not-whole d) p = apart-empty p (rw (not-whole second number d) (and-false (holds first number)))
+  reason-empty (second-not-whole d) p = apart-empty p (rw (not-whole second number d) (and-false (hasReading first number)))
   reason-empty (beyond h) p = apart-empty p (beyond-apart first second number h)
   reason-empty {part} (both-refused m n r s) p = go (comes p)
     where
@@ -193,10 +193,10 @@ module _ {first second : List ℤ} {number : ℕ} where
 
 -- ---- the receivers exchanged
 
--- Rule 17.7: the same part, or two that are accepted with equal reserves, each the reading of the receiver that came first
+-- Rule 17.7: the same part; or both readings are accepted with equal reserves, and each part is that of the receiver named first
 pub data Exchanged (first second : List ℤ) (number : ℕ) (part other : List ℤ) : Type 0 where
-  same : part ≡ other → Exchanged first second number part other
-  equal :
+  same-part : part ≡ other → Exchanged first second number part other
+  equal-reserves :
       (x y : Soft)
       → part ≡ readingAt first number
       → other ≡ readingAt second number
@@ -209,9 +209,9 @@ module _ {first second : List ℤ} {number : ℕ} {part other : List ℤ} (p : B
   pub exchanged : Exchanged first second number part other
   exchanged =
       let c = p .chooses in
-      go (holds first number) (holds second number) (c .one) (c .other) (c .one-allowed) (c .other-allowed)
+      go (hasReading first number) (hasReading second number) (c .one) (c .other) (c .one-allowed) (c .other-allowed)
       (p .is ∙ ap (partOf first second number) (c .is))
-      (q .is ∙ ap (partOf second first number) (chosen (c .other) (c .one) (q .chooses) (c .other-allowed) (c .one-allowed)))
+      (q .is ∙ ap (partOf second first number) (choice-by (c .other) (c .one) (q .chooses) (c .other-allowed) (c .one-allowed)))
     where
       compared :
           (x y : Soft) (l m : Bool)
@@ -225,9 +225,9 @@ module _ {first second : List ℤ} {number : ℕ} {part other : List ℤ} (p : B
       compared x y true true l m r s e f =
           let h = le-true (y .reserve) (x .reserve) l in
           let g = le-true (x .reserve) (y .reserve) m in
-          equal x y e f (rw e r) (rw f s) (omega ints)
-      compared x y true false l m r s e f = same (e ∙ sym f)
-      compared x y false true l m r s e f = same (e ∙ sym f)
+          equal-reserves x y e f (rw e r) (rw f s) (omega ints)
+      compared x y true false l m r s e f = same-part (e ∙ sym f)
+      compared x y false true l m r s e f = same-part (e ∙ sym f)
       compared x y false false l m r s e f =
           let h = le-false (y .reserve) (x .reserve) l in
           let g = le-false (x .reserve) (y .reserve) m in
@@ -237,22 +237,22 @@ module _ {first second : List ℤ} {number : ℕ} {part other : List ℤ} (p : B
           (t u : Bool) (a b : Answer Soft)
           → SoftRule (readingAt first number) a
           → SoftRule (readingAt second number) b
-          → part ≡ partOf first second number (cond (t && u) (larger (reserveOf a) (reserveOf b)) 0)
-          → other ≡ partOf second first number (cond (u && t) (larger (reserveOf b) (reserveOf a)) 0)
+          → part ≡ partOf first second number (cond (t && u) (preferred (reserveOf a) (reserveOf b)) 0)
+          → other ≡ partOf second first number (cond (u && t) (preferred (reserveOf b) (reserveOf a)) 0)
           → Exchanged first second number part other
       go true true (accepted x) (accepted y) r s e f = compared x y (leZ (y .reserve) (x .reserve)) (leZ (x .reserve) (y .reserve)) refl refl r s e f
-      go true true (accepted x) (refused n) r s e f = same (e ∙ sym f)
-      go true true (refused m) (accepted y) r s e f = same (e ∙ sym f)
-      go true true (refused m) (refused n) r s e f = same (e ∙ sym f)
-      go true false a b r s e f = same (e ∙ sym f)
-      go false true a b r s e f = same (e ∙ sym f)
-      go false false a b r s e f = same (e ∙ sym f)
+      go true true (accepted x) (refused n) r s e f = same-part (e ∙ sym f)
+      go true true (refused m) (accepted y) r s e f = same-part (e ∙ sym f)
+      go true true (refused m) (refused n) r s e f = same-part (e ∙ sym f)
+      go true false a b r s e f = same-part (e ∙ sym f)
+      go false true a b r s e f = same-part (e ∙ sym f)
+      go false false a b r s e f = same-part (e ∙ sym f)
 
   -- Rule 17.7: the reserve is the same in every case; what is empty is refused alike
   pub exchanged-reserve : (a b : Answer Soft) → SoftRule part a → SoftRule other b → reserveOf a ≡ reserveOf b
   exchanged-reserve a b r s = go exchanged
     where
       go : Exchanged first second number part other → reserveOf a ≡ reserveOf b
-      go (same e) = ap reserveOf (soft-once part a b r (rw (sym e) at s))
-      go (equal x y d e u v f) =
+      go (same-part e) = ap reserveOf (soft-once part a b r (rw (sym e) at s))
+      go (equal-reserves x y d e u v f) =
           ap reserveOf (soft-once part a (accepted x) r u) ∙ ap accepted f ∙ ap reserveOf (soft-once other (accepted y) b v s)

@@ -7,14 +7,14 @@ use lib.Dec.{eqb}
 use lib.IntN.{ℤ}
 use denote.Ref.{RefT, ptr, now}
 use Rattle.golay.specs.Answers.{Answer}
-use Rattle.buffers.specs.Buffers.{holds, readingAt, placeAt}
+use Rattle.buffers.specs.Buffers.{hasReading, readingAt, placeAt}
 use Rattle.soft.specs.declared.kinds.Soft.{Soft}
 use Rattle.soft.specs.Calls.{SoftRule}
-use Rattle.choices.specs.Choices.{reserveOf, larger}
+use Rattle.choices.specs.Choices.{reserveOf, preferred}
 
 -- Rule 17.2: there is a pair of readings with this number
-abbrev pub bothHold : List ℤ → List ℤ → ℕ → Bool
-bothHold first second number = holds first number && holds second number
+abbrev pub bothHave : List ℤ → List ℤ → ℕ → Bool
+bothHave first second number = hasReading first number && hasReading second number
 
 -- Rule 17.4: the choice, by an answer to each reading that the soft decoder's promise allows. There is one, and one only: `soft-exists` and
 -- `soft-once`, soft/proofs/Decided.antt
@@ -23,7 +23,7 @@ pub record Chooses (first second : List ℤ) (number choice : ℕ) : Type 0 wher
   pub other : Answer Soft
   pub one-allowed : SoftRule (readingAt first number) one
   pub other-allowed : SoftRule (readingAt second number) other
-  pub is : choice ≡ cond (bothHold first second number) (larger (reserveOf one) (reserveOf other)) 0
+  pub is : choice ≡ cond (bothHave first second number) (preferred (reserveOf one) (reserveOf other)) 0
 
 -- Rule 17.5: what the part holds: the chosen receiver's reading, or nothing
 abbrev pub partOf : List ℤ → List ℤ → ℕ → ℕ → List ℤ

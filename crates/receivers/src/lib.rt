@@ -2,7 +2,7 @@
 // buffers and every number, and its promise decides the whole answer.
 ghost use Rattle.choices.specs.Choices.{receiver};
 ghost use Rattle.receivers.specs.Calls.{Chooses, LendsBetter};
-use buffers::holds;
+use buffers::has_reading;
 use buffers::reading_at;
 use choices::kinds::Choice;
 use choices::larger_reserve;
@@ -11,10 +11,10 @@ use choices::larger_reserve;
 pub fn choice(first: &[i32], second: &[i32], number: usize) -> Choice
     ensures { λ r. ⌜ Chooses (now (first .entry)) (now (second .entry)) number (receiver r) ⌝ }
 {
-    if !holds(first, number) {
+    if !has_reading(first, number) {
         return Choice::Neither;
     }
-    if !holds(second, number) {
+    if !has_reading(second, number) {
         return Choice::Neither;
     }
     let one = soft::soft(reading_at(first, number));

@@ -6,13 +6,13 @@ use native.Mathlib.Omega.{arith}
 use borrow.Author.Needs.{needs}
 use borrow.Author.Tests.{not-true, not-false}
 use lib.ListN.{length}
-use Rattle.buffers.specs.Buffers.{holds}
+use Rattle.buffers.specs.Buffers.{hasReading}
 use Rattle.buffers.proofs.Holding.{held-room, reading-held, reading-none, begins-held, begins-none, from-start}
 use Rattle.buffers.proofs.reading_at.Statement.{statement}
 use Rattle.buffers.proofs.reading_at.Tie as tie
 
-held : (c : tie.Else1) → holds (c .before .before .args .buffer .now) (c .before .before .args .number) ≡ true
-held c = sym (c .before .holds .ensures) ∙ not-false _ (c .if1 .left)
+held : (c : tie.Else1) → hasReading (c .before .before .args .buffer .now) (c .before .before .args .number) ≡ true
+held c = sym (c .before .has-reading .ensures) ∙ not-false _ (c .if1 .left)
 
 room : (c : tie.Else1) → 24 * c .before .before .args .number + 24 ≤ length (c .before .before .args .buffer .now)
 room c = held-room _ _ (held c)
@@ -20,8 +20,8 @@ room c = held-room _ _ (held c)
 span : (n : ℕ) → 24 * n + 24 - 24 * n ≡ 24
 span n = omega arith
 
-holds-requires : tie.Need-holds-requires
-holds-requires c κs = search needs
+has-reading-requires : tie.Need-has-reading-requires
+has-reading-requires c κs = search needs
 
 sub-result : tie.Need-sub-result
 sub-result c = search needs
@@ -36,7 +36,7 @@ returns : tie.Need-returns
 returns c =
     let called = c .before .before in
     let a = called .before .args in
-    let e = sym (called .holds .ensures) ∙ not-true _ (c .before .if1 .taken) in
+    let e = sym (called .has-reading .ensures) ∙ not-true _ (c .before .if1 .taken) in
     record {
       contents = sym (reading-none (a .buffer .now) (a .number) e);
       begins = from-start (a .buffer .ptr) ∙ sym (begins-none (a .buffer .now) (a .number) e (a .buffer .ptr));
@@ -73,7 +73,7 @@ pub reading-at-spec : {M : Type 1} → statement M
 reading-at-spec =
     tie.close
     (tie.spec
-    holds-requires
+    has-reading-requires
     sub-result
     part-result-start
     part-result-end

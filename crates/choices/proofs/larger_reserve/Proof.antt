@@ -10,7 +10,7 @@ use Rattle.soft.specs.declared.kinds.Soft.{Soft}
 use Rattle.soft.specs.declared.kinds.SoftAnswer.{SoftAnswer}
 use Rattle.soft.specs.declared.kinds.SoftAnswer.the-variants.{Accepted}
 use Rattle.soft.specs.Answers.{softAnswer}
-use Rattle.choices.specs.Choices.{reserveOf, larger}
+use Rattle.choices.specs.Choices.{reserveOf, preferred}
 use Rattle.choices.proofs.larger_reserve.Statement.{statement}
 use Rattle.choices.proofs.larger_reserve.Tie as tie
 
@@ -22,7 +22,7 @@ compared :
     → SFits w64 (t .reserve)
     → (b : Bool)
     → leZ (toZ w64 (ofZ w64 (t .reserve))) (toZ w64 (ofZ w64 (s .reserve))) ≡ b
-    → cond b 1 2 ≡ larger (reserveOf (softAnswer x)) (reserveOf (softAnswer y))
+    → cond b 1 2 ≡ preferred (reserveOf (softAnswer x)) (reserveOf (softAnswer y))
 compared e f g h b tested = let l = rw (toZ-ofZ h, toZ-ofZ g) at tested in rw (e, f, l) refl
 
 record Fit (c : tie.After-struct-told2) : Type 0 where

@@ -7,22 +7,22 @@ use Rattle.receivers.proofs.Choosing.{no-pair, a-pair}
 use Rattle.receivers.proofs.choice.Statement.{statement}
 use Rattle.receivers.proofs.choice.Tie as tie
 
-holds-requires : tie.Need-holds-requires
-holds-requires c κs = search needs
+has-reading-requires : tie.Need-has-reading-requires
+has-reading-requires c κs = search needs
 
 returns : tie.Need-returns
 returns c =
     let a = c .before .before .args in
-    no-pair (a .first .now) (a .second .now) (a .number) (simp (sym (c .before .holds .ensures) ∙ not-true _ (c .if1 .taken)))
+    no-pair (a .first .now) (a .second .now) (a .number) (simp (sym (c .before .has-reading .ensures) ∙ not-true _ (c .if1 .taken)))
 
-holds-requires-2 : tie.Need-holds-requires-2
-holds-requires-2 c κs = search needs
+has-reading-requires-2 : tie.Need-has-reading-requires-2
+has-reading-requires-2 c κs = search needs
 
 returns-2 : tie.Need-returns-2
 returns-2 c =
     let a = c .before .before .before .before .args in
-    let one = sym (c .before .before .before .holds .ensures) ∙ not-false _ (c .before .before .if1 .left) in
-    no-pair (a .first .now) (a .second .now) (a .number) (simp (one, sym (c .before .holds2 .ensures) ∙ not-true _ (c .if2 .taken)))
+    let one = sym (c .before .before .before .has-reading .ensures) ∙ not-false _ (c .before .before .if1 .left) in
+    no-pair (a .first .now) (a .second .now) (a .number) (simp (one, sym (c .before .has-reading2 .ensures) ∙ not-true _ (c .if2 .taken)))
 
 reading-at-requires : tie.Need-reading-at-requires
 reading-at-requires c κs = search needs
@@ -46,8 +46,8 @@ returns-3 c =
     let tested = one .before .before in
     let a = tested .before .before .before .before .args in
     a-pair (a .first .now) (a .second .now) (a .number)
-    (sym (tested .before .before .before .holds .ensures) ∙ not-false _ (tested .before .before .if1 .left))
-    (sym (tested .before .holds2 .ensures) ∙ not-false _ (tested .if2 .left))
+    (sym (tested .before .before .before .has-reading .ensures) ∙ not-false _ (tested .before .before .if1 .left))
+    (sym (tested .before .has-reading2 .ensures) ∙ not-false _ (tested .if2 .left))
     (softAnswer (one .soft .result))
     (softAnswer (other .soft2 .result))
     (rw (one .before .reading-at .ensures .contents) at (one .soft .ensures))
@@ -58,9 +58,9 @@ pub choice-spec : {M : Type 1} → statement M
 choice-spec =
     tie.close
     (tie.spec
-    holds-requires
+    has-reading-requires
     returns
-    holds-requires-2
+    has-reading-requires-2
     returns-2
     reading-at-requires
     soft-requires
