@@ -179,16 +179,17 @@ static const int32_t *lend_reading(size_t length)
     return lend(INPUT, "reading", reading, length * sizeof *reading);
 }
 
-/* One reading in four is the other receiver's, negated where a codeword has a 1: with its reserve. */
-static void some_readings(int32_t *buffer, const int32_t *other)
+/* A reading for each receiver. One in four of the second is that of the first, negated where a
+ * codeword has a 1, so that both have one reserve. */
+static void some_pair(int32_t *one, int32_t *other)
 {
-    for (int i = 0; i < MOST_READINGS * POSITIONS; i += POSITIONS) {
-        uint32_t codeword = some_codeword();
-        some_reading(buffer + i);
-        if (chance() % 4 == 0)
-            for (int place = 0; place < POSITIONS; place++)
-                buffer[i + place] = codeword >> (23 - place) & 1 && other[i + place] != INT32_MIN ? -other[i + place] : other[i + place];
-    }
+    some_reading(one);
+    some_reading(other);
+    if (chance() % 4 != 0)
+        return;
+    uint32_t codeword = some_codeword();
+    for (int i = 0; i < POSITIONS; i++)
+        other[i] = codeword >> (23 - i) & 1 && one[i] != INT32_MIN ? -one[i] : one[i];
 }
 
 /* Whole readings, mostly all of them; or one confidence more or less. */
@@ -204,7 +205,11 @@ static size_t some_reading_number(void)
 {
     uint32_t sort = chance() % 16;
     size_t number = chance() % (sort < 8 ? MOST_READINGS + 2 : MOST_READINGS);
-    return sort == 0 ? SIZE_MAX - number : sort == 1 ? ((size_t)1 << 61) + number : sort == 2 ? (size_t)chance() << 32 | number : number;
+    if (sort == 0)
+        return SIZE_MAX - number;
+    if (sort == 1)
+        return ((size_t)1 << 61) + number;
+    return sort == 2 ? (size_t)chance() << 32 | number : number;
 }
 
 /* ---- facts */
@@ -551,8 +556,8 @@ static struct outcome try_better(void)
 {
     int32_t readings[2][LONGEST_BUFFER] = { { 0 } };
     size_t first_length = some_buffer_length(), second_length = some_buffer_length(), number = some_reading_number();
-    some_readings(readings[0], readings[1]);
-    some_readings(readings[1], readings[0]);
+    for (int i = 0; i < MOST_READINGS * POSITIONS; i += POSITIONS)
+        some_pair(readings[0] + i, readings[1] + i);
     const int32_t *first = lend(INPUT, "first", readings[0], first_length * sizeof *first);
     const int32_t *second = lend(INPUT, "second", readings[1], second_length * sizeof *second);
     uint8_t asked = 0, given = garthumor_better(first, first_length, second, second_length, number);
