@@ -12,7 +12,7 @@ const SEEDED_PAIRS: usize = 1_500;
 const FIXED_PAIRS: usize = 20;
 
 /// The readings that a receiver's buffer has at most.
-pub const MOST_READINGS: usize = 5;
+const MOST_READINGS: usize = 5;
 
 type Readings = [Vec<i32>; 2];
 
@@ -36,7 +36,7 @@ fn gathered(code: &Code, chance: &mut Chance, pairs: usize) -> Vec<Case> {
 }
 
 /// The worked buffers (16.10), and then the two exchanged.
-pub fn worked() -> Vec<Case> {
+fn worked() -> Vec<Case> {
     let twos = || vec![2; POSITIONS];
     let first = [ones(), ones(), zeros(), zeros(), twos()].concat();
     let against = with_confidence(&ones(), 0, -100);
@@ -92,8 +92,8 @@ pub fn equal(code: &Code, chance: &mut Chance) -> Readings {
     [reading, other]
 }
 
-/// Clean signals of any two codewords whose sizes differ by one, so that the reserves differ by 8
-/// (7.8), and one of these with a confidence less by one, which takes off less.
+/// Two clean signals whose sizes differ by one, so that their reserves differ by 8 (7.8); or a clean
+/// signal twice, once with a confidence less by one, so that they differ by 1.
 fn nearly_equal(code: &Code, chance: &mut Chance) -> Readings {
     let size = chance.between(1, MOST - 1);
     let mut clean = |size: i64| speaking_for(any_codeword(chance, code), &[size; POSITIONS]);
