@@ -7,7 +7,7 @@ use Prim.Native.Nat.{ℕ, _+_, _*_, _/_, _%_, _≤_, _<_}
 use native.Mathlib.Omega.{arith}
 use lib.Dec.{eqb, ltb}
 use lib.IntN.{ℤ}
-use lib.ListN.{length, take, drop}
+use lib.ListN.{length}
 use borrow.Author.Tests.{eq-eqb, ne-eqb, ltb-true}
 use Rattle.code.specs.Code.{positions}
 use Rattle.buffers.specs.Buffers.{hasReading, readingAt, placeAt}
@@ -32,10 +32,6 @@ module _ (buffer : List ℤ) (number : ℕ) where
 
     pub held-room : 24 * number + 24 ≤ length buffer
     held-room = omega (arith, held-below)
-
-    pub reading-held : readingAt buffer number ≡ take positions (drop (positions * number) buffer)
-    unfolding readingAt
-    reading-held = simp e
 
     pub begins-held : (at : ℕ × ℕ) → cond (hasReading buffer number) (placeAt at number) at ≡ placeAt at number
     begins-held at = simp e

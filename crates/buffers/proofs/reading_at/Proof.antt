@@ -6,8 +6,8 @@ use native.Mathlib.Omega.{arith}
 use borrow.Author.Needs.{needs}
 use borrow.Author.Tests.{not-true, not-false}
 use lib.ListN.{length}
-use Rattle.buffers.specs.Buffers.{hasReading}
-use Rattle.buffers.proofs.Holding.{held-room, reading-held, reading-none, begins-held, begins-none, from-start}
+use Rattle.buffers.specs.Buffers.{hasReading, readingAt}
+use Rattle.buffers.proofs.Holding.{held-room, reading-none, begins-held, begins-none, from-start}
 use Rattle.buffers.proofs.reading_at.Statement.{statement}
 use Rattle.buffers.proofs.reading_at.Tie as tie
 
@@ -61,11 +61,12 @@ part-result-end-2 : tie.Need-part-result-end-2
 part-result-end-2 c = let h = room c in search needs
 
 returns-2 : tie.Need-returns-2
+unfolding readingAt
 returns-2 c =
     let a = c .before .before .before .args in
     let e = held (c .before) in
     record {
-      contents = rw (span (a .number)) (sym (reading-held (a .buffer .now) (a .number) e));
+      contents = rw (span (a .number)) (simp e);
       begins = sym (begins-held (a .buffer .now) (a .number) e (a .buffer .ptr));
     }
 
