@@ -9,6 +9,8 @@ Decodes a capture, FILE or standard input. What it prints:
 
     message reserve      the header
     3272 4958384         a record: the command, 0 to 4,095, and its reserve: any change of the 24 confidences that adds up to less keeps it
+    3272 4958384 2       a new record, which has a number: two before it were lost; \`repeat\` in place of the count: the same number again;
+                         \`late\`: out of order; refused records have it too
     refused 6            no one command is best: keep the last speed
     refused 2            a confidence is -2,147,483,648, which is no confidence: look at the receiver
     stopped 9 at 14700   no mark where a record should begin, at this byte; nothing after it is read

@@ -3,6 +3,8 @@
 
 mod child;
 mod damage;
+mod pieces;
+mod records;
 mod trials;
 
 use crate::capture;
@@ -18,7 +20,7 @@ use std::thread;
 use trials::Trial;
 
 #[cfg(test)]
-pub use trials::trials;
+pub use trials::{trials, TRIALS};
 
 /// Where the program finds its captures. Those that it writes something else for stay there.
 const FOLDER: &str = "target/captures";

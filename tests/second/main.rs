@@ -12,6 +12,7 @@ mod code;
 mod compare;
 mod decoders;
 mod line;
+mod numbers;
 mod parts;
 mod readings;
 mod samples;
@@ -43,8 +44,8 @@ const USAGE: &str =
                                      runs a capture program on captures that a seed gives, and
                                      compares what it writes with its own
        second seed                   prints a fresh seed
-KIND is golay, hard, favours, soft, quick or receivers; SAMPLE is decent, weak or damaged;
-SEED is a decimal number below 2^64";
+KIND is golay, hard, favours, soft, quick or receivers;
+SAMPLE is decent, weak, damaged or numbered; SEED is a decimal number below 2^64";
 
 enum Failure {
     Usage,

@@ -1,6 +1,6 @@
 //! What the program of crates/parts reads for a case of two receivers, and what it must print.
 
-use crate::capture::record;
+use crate::capture::old_record;
 use crate::code::{Code, POSITIONS};
 use crate::line::{spaced, Case};
 
@@ -15,7 +15,7 @@ fn better(case: &Case) -> Result<(u64, &[i32], &[i32]), String> {
 }
 
 /// The number in eight bytes, the most significant first; the buffers' lengths in a byte each; and both
-/// buffers as six records of a capture (12.1), zeros after their end.
+/// buffers as six old records of a capture (12.1), zeros after their end.
 pub fn bytes_of(case: &Case) -> Result<Vec<u8>, String> {
     let (number, first, second) = better(case)?;
     let mut bytes = number.to_be_bytes().to_vec();
@@ -30,7 +30,7 @@ pub fn bytes_of(case: &Case) -> Result<Vec<u8>, String> {
         whole.resize(READINGS * POSITIONS, 0);
         whole
             .chunks(POSITIONS)
-            .for_each(|reading| bytes.extend(record(reading)));
+            .for_each(|reading| bytes.extend(old_record(reading)));
     }
     Ok(bytes)
 }

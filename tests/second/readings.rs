@@ -2,6 +2,7 @@
 
 use crate::chance::Chance;
 use crate::code::{bit_at, Code, COLUMNS, POSITIONS};
+use crate::decoders::FORBIDDEN;
 use crate::words::{any_codeword, damaged};
 
 /// The largest size of a confidence.
@@ -35,6 +36,12 @@ pub fn speaking_for(word: u32, sizes: &[i64]) -> Vec<i32> {
 pub fn turned(reading: &[i32], word: u32) -> Vec<i32> {
     let sizes: Vec<i64> = reading.iter().map(|&c| i64::from(c)).collect();
     speaking_for(word, &sizes)
+}
+
+/// The reading with a receiver's overflow at one place, the confidence that is refused.
+pub fn overflowing(chance: &mut Chance, mut reading: Vec<i32>) -> Vec<i32> {
+    reading[chance.below(POSITIONS as u64) as usize] = FORBIDDEN;
+    reading
 }
 
 pub fn sizes(chance: &mut Chance, least: i64, most: i64) -> Vec<i64> {

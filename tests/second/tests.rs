@@ -3,7 +3,7 @@
 //! Built by `rustc -O --test --edition 2021 -o target/second-tests tests/second/main.rs`.
 
 use crate::capture;
-use crate::captures::trials;
+use crate::captures::{trials, TRIALS};
 use crate::cases::{equal, patterns, refusals, Kind};
 use crate::chance::Chance;
 use crate::code::{
@@ -589,23 +589,40 @@ fn comparing_counts_cases_and_missing_or_added_lines() {
     );
 }
 
-fn record(confidence: i32) -> Vec<u8> {
-    let mut record = vec![0x49, 0x43];
+/// A record of 24 times one confidence behind the given bytes.
+fn record(head: &[u8], confidence: i32) -> Vec<u8> {
+    let mut record = head.to_vec();
     (0..24).for_each(|_| record.extend(confidence.to_be_bytes()));
     record
+}
+
+fn old(confidence: i32) -> Vec<u8> {
+    record(&[0x49, 0x43], confidence)
+}
+
+fn new(number: u16, confidence: i32) -> Vec<u8> {
+    let (high, low) = (number / 256, number % 256);
+    record(&[0x49, 0x44, high as u8, low as u8], confidence)
 }
 
 #[test]
 fn records_have_the_mark_and_the_most_significant_byte_first() {
     for confidence in [0, 1, -2, 0x0102_0304, i32::MAX, i32::MIN] {
-        assert_eq!(capture::record(&[confidence; 24]), record(confidence));
+        assert_eq!(capture::old_record(&[confidence; 24]), old(confidence));
+        for number in [0, 1, 255, 256, 0x0102, 65_535] {
+            let bytes = capture::new_record(number, &[confidence; 24]);
+            assert_eq!(bytes, new(number, confidence));
+        }
     }
     let mut reading = vec![0; 24];
     reading[0] = 0x0102_0304;
     reading[23] = -2;
-    let bytes = capture::record(&reading);
+    let bytes = capture::old_record(&reading);
     assert_eq!(bytes[..6], [0x49, 0x43, 1, 2, 3, 4]);
     assert_eq!(bytes[94..], [0xFF, 0xFF, 0xFF, 0xFE]);
+    let bytes = capture::new_record(0x0506, &reading);
+    assert_eq!(bytes[..8], [0x49, 0x44, 5, 6, 1, 2, 3, 4]);
+    assert_eq!(bytes[96..], [0xFF, 0xFF, 0xFF, 0xFE]);
 }
 
 /// Two trials at once must not write and remove one file.
@@ -614,6 +631,30 @@ fn captures_tried_have_names_of_their_own() {
     let trials = trials(&code(), &mut Chance::from_seed(5));
     let names: HashSet<&str> = trials.iter().map(|trial| trial.name.as_str()).collect();
     assert_eq!(names.len(), trials.len());
+    assert_eq!(trials.len(), TRIALS);
+}
+
+/// Among the shorter ones: both stops, and every way for a refused reading's line to end.
+#[test]
+fn captures_tried_tell_everything() {
+    let code = code();
+    let mut met = HashSet::new();
+    for trial in trials(&code, &mut Chance::from_seed(5)) {
+        if trial.bytes.len() < 1_000 {
+            let output = capture::output(&code, &trial.bytes);
+            let without_offset = |line: &str| line.split(" at ").next().map(str::to_string);
+            met.extend(output.lines().filter_map(without_offset));
+        }
+    }
+    let mut wanted = vec!["stopped 9".to_string(), "stopped 10".to_string()];
+    for number in [2, 6] {
+        for ending in ["", " 0", " 1", " 32766", " 32767", " repeat", " late"] {
+            wanted.push(format!("refused {number}{ending}"));
+        }
+    }
+    for line in wanted {
+        assert!(met.contains(&line), "{line}");
+    }
 }
 
 #[test]
@@ -632,9 +673,16 @@ fn samples_show_what_they_are_named_for() {
         .starts_with("stopped 9 at "));
 }
 
+/// What is printed behind the header.
+fn lines(capture: &[u8]) -> String {
+    let output = capture::output(&code(), capture);
+    let lines = output.strip_prefix("message reserve\n");
+    lines.expect("the header").to_string()
+}
+
 #[test]
 fn worked_captures_end_and_stop() {
-    let (one, zero, lowest) = (record(1), record(0), record(i32::MIN));
+    let (one, zero, lowest) = (old(1), old(0), old(i32::MIN));
     let tried = [
         (
             [&one[..], &zero, &[0x49]].concat(),
@@ -649,10 +697,136 @@ fn worked_captures_end_and_stop() {
         (one[..2].to_vec(), "stopped 10 at 0\n"),
         ([&one[..], &one[..97]].concat(), "0 8\nstopped 10 at 98\n"),
     ];
-    for (capture, lines) in tried {
-        assert_eq!(
-            capture::output(&code(), &capture),
-            format!("message reserve\n{lines}")
-        );
+    for (capture, expected) in tried {
+        assert_eq!(lines(&capture), expected);
     }
+}
+
+#[test]
+fn captures_of_both_kinds_end_and_stop() {
+    let (old, new) = (old(1), new(7, 1));
+    let tried = [
+        ([&old[..], &new, &old].concat(), "0 8\n0 8 0\n0 8\n"),
+        (new[..1].to_vec(), "stopped 10 at 0\n"),
+        (new[..2].to_vec(), "stopped 10 at 0\n"),
+        (new[..3].to_vec(), "stopped 10 at 0\n"),
+        (new[..4].to_vec(), "stopped 10 at 0\n"),
+        (new[..98].to_vec(), "stopped 10 at 0\n"),
+        (new[..99].to_vec(), "stopped 10 at 0\n"),
+        ([&[0x49, 0x45], &new[2..]].concat(), "stopped 9 at 0\n"),
+        ([&[0x44, 0x49], &new[..]].concat(), "stopped 9 at 0\n"),
+        ([&new[..], &[0x44]].concat(), "0 8 0\nstopped 10 at 100\n"),
+        (
+            [&new[..], &old[..97]].concat(),
+            "0 8 0\nstopped 10 at 100\n",
+        ),
+        ([&old[..], &new[..98]].concat(), "0 8\nstopped 10 at 98\n"),
+        (
+            [&new[..], &old, &new[..99]].concat(),
+            "0 8 0\n0 8\nstopped 10 at 198\n",
+        ),
+        (
+            [&old[..], &new, &[0x49, 0x45]].concat(),
+            "0 8\n0 8 0\nstopped 9 at 198\n",
+        ),
+    ];
+    for (capture, expected) in tried {
+        assert_eq!(lines(&capture), expected);
+    }
+}
+
+#[test]
+fn worked_numbers() {
+    let capture = [new(7, 1), new(9, 1), new(9, 1), new(8, 1)].concat();
+    assert_eq!(lines(&capture), "0 8 0\n0 8 1\n0 8 repeat\n0 8 late\n");
+}
+
+#[test]
+fn refused_readings_tell_their_numbers_too() {
+    let capture = [
+        new(1, 0),
+        new(3, i32::MIN),
+        new(3, 0),
+        new(2, i32::MIN),
+        old(0),
+        new(4, 1),
+    ];
+    assert_eq!(
+        lines(&capture.concat()),
+        "refused 6 0\nrefused 2 1\nrefused 6 repeat\nrefused 2 late\nrefused 6\n0 8 0\n"
+    );
+}
+
+/// What each record tells behind its answer, with a space; the records without a number are old.
+fn told(numbers: &[Option<u16>]) -> Vec<String> {
+    let record = |number: &Option<u16>| number.map_or(old(1), |number| new(number, 1));
+    let capture: Vec<u8> = numbers.iter().flat_map(record).collect();
+    let told = |line: &str| line.strip_prefix("0 8").expect("an answer").to_string();
+    lines(&capture).lines().map(told).collect()
+}
+
+#[test]
+fn numbers_wrap_and_pass_over_old_and_late_records() {
+    let tried: [(&[Option<u16>], &[&str]); 7] = [
+        (&[Some(65_535)], &[" 0"]),
+        (&[None, Some(40_000)], &["", " 0"]),
+        (
+            &[Some(65_534), Some(65_535), Some(0), Some(1)],
+            &[" 0", " 0", " 0", " 0"],
+        ),
+        (
+            &[Some(65_530), Some(4), Some(65_535), Some(4)],
+            &[" 0", " 9", " late", " repeat"],
+        ),
+        (
+            &[Some(7), None, Some(9), None, Some(9), None, None, Some(8)],
+            &[" 0", "", " 1", "", " repeat", "", "", " late"],
+        ),
+        (
+            &[Some(10), Some(8), Some(9), None, Some(11)],
+            &[" 0", " late", " late", "", " 0"],
+        ),
+        (
+            &[Some(0), Some(32_768), Some(0), Some(32_769)],
+            &[" 0", " 32767", " 32767", " late"],
+        ),
+    ];
+    for (numbers, expected) in tried {
+        assert_eq!(told(numbers), expected);
+    }
+}
+
+/// What a step tells; and what the number tells after it that is one count from the first, by which
+/// the number shows that was kept.
+#[test]
+fn steps_tell_and_keep() {
+    let expected = [
+        (0, " repeat", " 0"),
+        (1, " 0", " repeat"),
+        (2, " 1", " late"),
+        (3, " 2", " late"),
+        (256, " 255", " late"),
+        (32_767, " 32766", " late"),
+        (32_768, " 32767", " late"),
+        (32_769, " late", " 0"),
+        (32_770, " late", " 0"),
+        (65_534, " late", " 0"),
+        (65_535, " late", " 0"),
+    ];
+    for first in [0, 1, 7, 255, 32_767, 32_768, 32_769, 65_534, 65_535] {
+        for (step, told_then, told_next) in expected {
+            let number = |step: u32| Some(((first + step) % 65_536) as u16);
+            let numbers = [number(0), None, number(step), number(1)];
+            assert_eq!(told(&numbers), [" 0", "", told_then, told_next]);
+        }
+    }
+}
+
+#[test]
+fn records_start_where_the_run_finds_them() {
+    let capture = [old(1), new(7, 0), new(9, 1), old(0)].concat();
+    assert_eq!(capture::starts(&capture), [0, 98, 198, 298, 396]);
+    assert_eq!(capture::starts(&capture[..395]), [0, 98, 198, 298]);
+    assert_eq!(capture::starts(&capture[2..]), [0]);
+    assert_eq!(capture::starts(&[]), [0]);
 }

@@ -1,4 +1,4 @@
--- Rules 13.3 and 13.4: what a line tells of a reading, which is the soft decoder's answer by message and reserve.
+-- Rules 13.3, 13.4 and 13.8: what a line tells of a record, which is the soft decoder's answer by message and reserve.
 use mathlib.Core.Path.{_≡_}
 use mathlib.Core.List.{List}
 use Prim.Native.Nat.{ℕ, _≤_}
@@ -7,6 +7,7 @@ use lib.ListN.{length}
 use Rattle.golay.specs.Answers.{Answer, accepted, refused}
 use Rattle.soft.specs.declared.kinds.Soft.{Soft}
 use Rattle.soft.specs.Calls.{SoftRule}
+use Rattle.sequence.specs.declared.kinds.Follows.{Follows}
 use Rattle.lines.specs.Lines.{answerLine, longest}
 use Rattle.texts.specs.Buffers.{Writes}
 
@@ -22,7 +23,8 @@ pub record Decoder (decode : List ℤ → Answer (ℕ × ℕ)) : Type 0 where
   pub allowed : (xs : List ℤ) → SoftRule xs (soft xs)
   pub told : (xs : List ℤ) → decode xs ≡ messageAndReserve (soft xs)
 
--- Rules 13.3 and 13.4: the line of every decoder's answer to a reading, written at a place; and it is no longer than a line is
-pub record Tells (xs : List ℤ) (before : List ℕ) (at : ℕ) (after : List ℕ) (next : ℕ) : Type 0 where
-  pub line : (decode : List ℤ → Answer (ℕ × ℕ)) → Decoder decode → Writes (answerLine (decode xs)) before at after next
-  pub short : (decode : List ℤ → Answer (ℕ × ℕ)) → Decoder decode → length (answerLine (decode xs)) ≤ longest
+-- Rules 13.3, 13.4 and 13.8: the line of every decoder's answer to the reading of a record, by how the record follows, written at a place; and
+-- it is no longer than a line is
+pub record Tells (xs : List ℤ) (follows : Follows) (before : List ℕ) (at : ℕ) (after : List ℕ) (next : ℕ) : Type 0 where
+  pub line : (decode : List ℤ → Answer (ℕ × ℕ)) → Decoder decode → Writes (answerLine (decode xs) follows) before at after next
+  pub short : (decode : List ℤ → Answer (ℕ × ℕ)) → Decoder decode → length (answerLine (decode xs) follows) ≤ longest

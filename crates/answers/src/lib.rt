@@ -1,18 +1,19 @@
-// The line of a reading's answer. What it tells is what the soft decoder answers.
+// The line of a record. What it tells of the reading is what the soft decoder answers.
 ghost use Rattle.answers.specs.Decoding.{Tells};
+use sequence::kinds::Follows;
 use soft::kinds::SoftAnswer;
 
 // A line that does not fit is not begun, as in `lines`.
-pub fn write_answer(reading: &[i32], out: &mut [u8], at: usize) -> usize
-    ensures { λ r. ⌜ Tells (now (reading .entry)) (now (out .entry)) at (now (out .exit)) r ⌝ }
+pub fn write_answer(reading: &[i32], follows: Follows, out: &mut [u8], at: usize) -> usize
+    ensures { λ r. ⌜ Tells (now (reading .entry)) follows (now (out .entry)) at (now (out .exit)) r ⌝ }
 {
     match soft::soft(reading) {
         SoftAnswer::Accepted(values) => {
             let reserve = signed::size(values.reserve);
-            lines::write_accepted(values.message.0, reserve, out, at)
+            lines::write_accepted(values.message.0, reserve, follows, out, at)
         }
         SoftAnswer::Refused(reason) => {
-            lines::write_refused(golay::refusal_number(reason), out, at)
+            lines::write_refused(golay::refusal_number(reason), follows, out, at)
         }
     }
 }

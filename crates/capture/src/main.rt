@@ -1,16 +1,17 @@
 // Decodes a capture, from the file that the argument names or from standard input: the header, a line for each record, the line where it stopped.
 // A first argument `-9` says that someone reads descriptor 9 for failures: the language gives a program no exit status.
 ghost use mathlib.Core.Path.{_≡_};
-ghost use Prim.Native.Nat.{_+_, _%_, _≤_};
+ghost use mathlib.Core.Bool.{false};
+ghost use Prim.Native.Nat.{_+_, _≤_, _<_};
 ghost use lib.ListN.{length};
-ghost use Rattle.records.specs.Records.{recordLength};
 ghost use Rattle.lines.specs.Lines.{longest};
-ghost use Rattle.pieces.specs.Pieces.{wholes};
+ghost use Rattle.records.specs.Records.{newLength};
 ghost use Rattle.run.specs.Runs.{Room};
 use libc::STDERR_FILENO;
 use libc::STDIN_FILENO;
 use libc::STDOUT_FILENO;
 use run::kinds::Turned;
+use sequence::kinds::Number;
 
 // No offset comes near the end of 64 bits; this says so to the proof.
 const FARTHEST: u64 = 0xFFFF_FFFF_FFFE_0000;
@@ -71,22 +72,23 @@ fn clear_progress(shows: bool) {
 }
 
 // The text of what is left at the end of the input.
-fn write_last(held: &[u8], count: usize, offset: u64, text: &mut [u8])
+fn write_last(held: &[u8], count: usize, previous: Number, offset: u64, text: &mut [u8])
     requires { ⌜ count ≤ length (now held) ⌝ }
     requires { ⌜ Room offset count (length (now text)) ⌝ }
 {
-    let outcome = run::run(&held[..count], offset, text);
+    let outcome = run::run(&held[..count], previous, offset, text);
     let put = outcome.put;
     write_text(text, put);
 }
 
 // A turn, and its text written; one whose text can't be written is the last, as one that stopped.
-fn write_turn(held: &mut [u8], count: usize, offset: u64, text: &mut [u8]) -> Turned
+fn write_turn(held: &mut [u8], count: usize, previous: Number, offset: u64, text: &mut [u8]) -> Turned
     requires { ⌜ count ≤ length (now held) ⌝ }
     requires { ⌜ Room offset count (length (now text)) ⌝ }
-    ensures { λ r. ⌜ (r .left ≡ count % recordLength) × (r .next ≡ offset + wholes count) ⌝ }
+    ensures { λ r. ⌜ r .next + r .left ≡ offset + count ⌝ }
+    ensures { λ r. ⌜ r .outcome .stopped ≡ false → r .left < newLength ⌝ }
 {
-    let mut t = run::turn(held, count, offset, text);
+    let mut t = run::turn(held, count, previous, offset, text);
     let outcome = t.outcome;
     let put = outcome.put;
     if !write_text(text, put) {
@@ -102,6 +104,7 @@ fn decode_pieces(fd: i32, name: &[u8], shows: bool, held: &mut [u8], text: &mut 
 {
     let mut offset: u64 = 0;
     let mut count: usize = 0;
+    let mut previous = Number::None;
     while offset < FARTHEST {
         let got = libc::read(fd, &mut held[count..]);
         if got < 0 {
@@ -111,10 +114,10 @@ fn decode_pieces(fd: i32, name: &[u8], shows: bool, held: &mut [u8], text: &mut 
         }
         let n = io::count(got, &held[count..]);
         if n == 0 {
-            write_last(held, count, offset, text);
+            write_last(held, count, previous, offset, text);
             return;
         }
-        let t = write_turn(held, count + n, offset, text);
+        let t = write_turn(held, count + n, previous, offset, text);
         let outcome = t.outcome;
         if outcome.stopped {
             return;
@@ -122,6 +125,7 @@ fn decode_pieces(fd: i32, name: &[u8], shows: bool, held: &mut [u8], text: &mut 
         show_progress(shows, offset, t.next);
         count = t.left;
         offset = t.next;
+        previous = outcome.previous;
     }
 }
 
@@ -136,7 +140,7 @@ fn decode(fd: i32, name: &[u8]) {
         let shows = shows_progress();
         let mut held = io::large_buffer();
         // as many bytes as are held, and one line more
-        let mut text = [0u8; 65572];
+        let mut text = [0u8; 65575];
         decode_pieces(fd, name, shows, &mut held, &mut text);
         clear_progress(shows);
     }

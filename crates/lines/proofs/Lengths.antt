@@ -7,7 +7,9 @@ use lib.Dec.{lit≤}
 use lib.ListN.{length, length-append}
 use Rattle.texts.specs.Texts.{decimal}
 use Rattle.texts.proofs.Decimal.{decimal-length}
-use Rattle.lines.specs.Lines.{header, acceptedLine, refusedLine, stoppedLine, longest}
+use Rattle.sequence.specs.declared.kinds.Follows.{Follows}
+use Rattle.sequence.specs.declared.kinds.Follows.the-variants.{Unnumbered, Lost, Repeat, Late}
+use Rattle.lines.specs.Lines.{header, suffix, acceptedLine, refusedLine, stoppedLine, longest}
 
 -- a number of a width in bits, by its digits
 below : (bits w n : ℕ) → 1 ≤ w → 2 ^ bits ≤ 10 ^ w → n < 2 ^ bits → length (decimal n) ≤ w
@@ -16,11 +18,27 @@ below bits w n p h l = decimal-length w n p (lt-of-lt-of-le l h)
 pub header-short : length header ≤ longest
 header-short = lit≤ tt
 
-pub accepted-short : (message reserve : ℕ) → message < 2 ^ 32 → reserve < 2 ^ 64 → length (acceptedLine message reserve) ≤ longest
-accepted-short m r h l = simp length-append (omega (arith, below 32 10 m (lit≤ tt) (lit≤ tt) h, below 64 20 r (lit≤ tt) (lit≤ tt) l))
+-- how a record follows, with a count of 16 bits
+abbrev pub Counted : Follows → Type 0
+Counted Unnumbered = ⊤
+Counted (Lost n) = n < 2 ^ 16
+Counted Repeat = ⊤
+Counted Late = ⊤
 
-pub refused-short : (number : ℕ) → number < 2 ^ 8 → length (refusedLine number) ≤ longest
-refused-short n h = simp length-append (omega (arith, below 8 3 n (lit≤ tt) (lit≤ tt) h))
+pub suffix-short : (follows : Follows) → Counted follows → length (suffix follows) ≤ 7
+suffix-short Unnumbered h = lit≤ tt
+suffix-short (Lost n) h = omega (arith, below 16 5 n (lit≤ tt) (lit≤ tt) h)
+suffix-short Repeat h = lit≤ tt
+suffix-short Late h = lit≤ tt
+
+module _ (follows : Follows) (counted : Counted follows) where
+  pub accepted-short : (message reserve : ℕ) → message < 2 ^ 32 → reserve < 2 ^ 64 → length (acceptedLine message reserve follows) ≤ longest
+  accepted-short m r h l =
+      simp length-append
+      (omega (arith, below 32 10 m (lit≤ tt) (lit≤ tt) h, below 64 20 r (lit≤ tt) (lit≤ tt) l, suffix-short follows counted))
+
+  pub refused-short : (number : ℕ) → number < 2 ^ 8 → length (refusedLine number follows) ≤ longest
+  refused-short n h = simp length-append (omega (arith, below 8 3 n (lit≤ tt) (lit≤ tt) h, suffix-short follows counted))
 
 pub stopped-short : (number offset : ℕ) → number < 2 ^ 8 → offset < 2 ^ 64 → length (stoppedLine number offset) ≤ longest
 stopped-short n o h l = simp length-append (omega (arith, below 8 3 n (lit≤ tt) (lit≤ tt) h, below 64 20 o (lit≤ tt) (lit≤ tt) l))

@@ -1,31 +1,40 @@
--- Rules 13.2 to 13.5: the text of each line, its line feed included.
-use mathlib.Core.List.{List}
+-- Rules 13.2 to 13.5 and 13.8: the text of each line, its line feed included.
+use mathlib.Core.List.{List, [], _++_}
 use Prim.Native.Nat.{ℕ}
 use Rattle.golay.specs.Answers.{Answer, accepted, refused}
+use Rattle.sequence.specs.declared.kinds.Follows.{Follows}
+use Rattle.sequence.specs.declared.kinds.Follows.the-variants.{Unnumbered, Lost, Repeat, Late}
 use Rattle.texts.specs.Ascii.{ascii}
-use Rattle.texts.specs.Texts.{lineOf, lineOfTwo}
+use Rattle.texts.specs.Texts.{decimal, lineFeed, lineOf, lineOfTwo}
 
 -- Rule 13.2: the header
 abbrev pub header : List ℕ
 header = ascii "message reserve\n"
 
--- Rule 13.3, as in "0 8"
-abbrev pub acceptedLine : ℕ → ℕ → List ℕ
-acceptedLine message reserve = lineOfTwo (ascii "") message (ascii " ") reserve
+-- Rule 13.8: what the line of a record has more, as in "0 8 1" or "refused 6 late"
+abbrev pub suffix : Follows → List ℕ
+suffix Unnumbered = []
+suffix (Lost n) = ascii " " ++ decimal n
+suffix Repeat = ascii " repeat"
+suffix Late = ascii " late"
 
--- Rule 13.4, as in "refused 6"
-abbrev pub refusedLine : ℕ → List ℕ
-refusedLine number = lineOf (ascii "refused ") number
+-- Rules 13.3 and 13.8, as in "0 8"
+abbrev pub acceptedLine : ℕ → ℕ → Follows → List ℕ
+acceptedLine message reserve follows = lineOfTwo (ascii "") message (ascii " ") reserve (suffix follows ++ lineFeed)
+
+-- Rules 13.4 and 13.8, as in "refused 6"
+abbrev pub refusedLine : ℕ → Follows → List ℕ
+refusedLine number follows = lineOf (ascii "refused ") number (suffix follows ++ lineFeed)
 
 -- Rule 13.5, as in "stopped 10 at 196"
 abbrev pub stoppedLine : ℕ → ℕ → List ℕ
-stoppedLine number offset = lineOfTwo (ascii "stopped ") number (ascii " at ") offset
+stoppedLine number offset = lineOfTwo (ascii "stopped ") number (ascii " at ") offset lineFeed
 
--- Rules 13.3 and 13.4: the line of an answer: message and reserve, or the number of the refusal
-abbrev pub answerLine : Answer (ℕ × ℕ) → List ℕ
-answerLine (accepted x) = acceptedLine (x .0) (x .1)
-answerLine (refused n) = refusedLine n
+-- Rules 13.3, 13.4 and 13.8: the line of an answer: message and reserve, or the number of the refusal, and how the record follows
+abbrev pub answerLine : Answer (ℕ × ℕ) → Follows → List ℕ
+answerLine (accepted x) follows = acceptedLine (x .0) (x .1) follows
+answerLine (refused n) follows = refusedLine n follows
 
--- the most bytes that a line takes: "stopped ", three digits, " at ", twenty digits and a line feed
+-- the most bytes that a line takes: ten digits, a space, twenty digits, " repeat" and a line feed
 abbrev pub longest : ℕ
-longest = 36
+longest = 39

@@ -1,13 +1,19 @@
 // The text of each line of output, put into a lent buffer at a place. A line that does not fit is not begun: no byte of the buffer
 // changes, and the answer is the place itself.
-ghost use Rattle.lines.specs.Lines.{header, acceptedLine, refusedLine, stoppedLine};
+ghost use mathlib.Core.Path.{_≡_};
+ghost use mathlib.Core.List.{_++_};
+ghost use Prim.Native.Nat.{_≤_};
+ghost use lib.ListN.{length, take};
 ghost use Rattle.texts.specs.Buffers.{Writes};
+ghost use Rattle.texts.specs.Texts.{lineFeed};
+ghost use Rattle.lines.specs.Lines.{header, suffix, acceptedLine, refusedLine, stoppedLine};
+use sequence::kinds::Follows;
 use texts::write_one;
 use texts::write_text;
 use texts::write_two;
 
 // The most bytes that a line takes.
-pub const LONGEST: usize = 36;
+pub const LONGEST: usize = 39;
 
 // "message reserve" (rule 13.2).
 pub fn write_header(out: &mut [u8], at: usize) -> usize
@@ -16,23 +22,41 @@ pub fn write_header(out: &mut [u8], at: usize) -> usize
     write_text(b"message reserve\n", out, at)
 }
 
-// As in "0 8" (rule 13.3).
-pub fn write_accepted(message: u32, reserve: u64, out: &mut [u8], at: usize) -> usize
-    ensures { λ r. ⌜ Writes (acceptedLine message reserve) (now (out .entry)) at (now (out .exit)) r ⌝ }
+// Puts what the line of a record ends with at the start of a buffer, and answers how many bytes that are (rule 13.8).
+fn spell_end(follows: Follows, end: &mut [u8]) -> usize
+    requires { ⌜ length (now end) ≡ 8 ⌝ }
+    ensures { λ r. ⌜ r ≤ 8 ⌝ }
+    ensures { λ r. ⌜ take r (now (end .exit)) ≡ suffix follows ++ lineFeed ⌝ }
 {
-    write_two(b"", message as u64, b" ", reserve, out, at)
+    match follows {
+        Follows::Unnumbered => write_text(b"\n", end, 0),
+        Follows::Lost(n) => write_one(b" ", n as u64, b"\n", end, 0),
+        Follows::Repeat => write_text(b" repeat\n", end, 0),
+        Follows::Late => write_text(b" late\n", end, 0),
+    }
+}
+
+// As in "0 8" (rule 13.3).
+pub fn write_accepted(message: u32, reserve: u64, follows: Follows, out: &mut [u8], at: usize) -> usize
+    ensures { λ r. ⌜ Writes (acceptedLine message reserve follows) (now (out .entry)) at (now (out .exit)) r ⌝ }
+{
+    let mut end = [0u8; 8];
+    let k = spell_end(follows, &mut end);
+    write_two(b"", message as u64, b" ", reserve, &end[..k], out, at)
 }
 
 // As in "refused 6" (rule 13.4).
-pub fn write_refused(number: u8, out: &mut [u8], at: usize) -> usize
-    ensures { λ r. ⌜ Writes (refusedLine number) (now (out .entry)) at (now (out .exit)) r ⌝ }
+pub fn write_refused(number: u8, follows: Follows, out: &mut [u8], at: usize) -> usize
+    ensures { λ r. ⌜ Writes (refusedLine number follows) (now (out .entry)) at (now (out .exit)) r ⌝ }
 {
-    write_one(b"refused ", number as u64, out, at)
+    let mut end = [0u8; 8];
+    let k = spell_end(follows, &mut end);
+    write_one(b"refused ", number as u64, &end[..k], out, at)
 }
 
 // As in "stopped 10 at 196" (rule 13.5).
 pub fn write_stopped(number: u8, offset: u64, out: &mut [u8], at: usize) -> usize
     ensures { λ r. ⌜ Writes (stoppedLine number offset) (now (out .entry)) at (now (out .exit)) r ⌝ }
 {
-    write_two(b"stopped ", number as u64, b" at ", offset, out, at)
+    write_two(b"stopped ", number as u64, b" at ", offset, b"\n", out, at)
 }

@@ -5,7 +5,7 @@ ghost use lib.ListN.{length};
 use golay::POSITIONS;
 use libc::STDIN_FILENO;
 use libc::STDOUT_FILENO;
-use records::RECORD;
+use records::OLD_RECORD;
 
 // A case: the reading's number in eight bytes, the two buffers' lengths in a byte each, six records for the first, six for the second.
 const FIRST: usize = 10;
@@ -45,7 +45,7 @@ fn confidences(case: &[u8], from: usize) -> [i32; 144]
     let mut made = [0i32; 144];
     let mut i = 0;
     while i < BUFFER {
-        let reading = records::confidences(case, from + RECORD * (i / POSITIONS));
+        let reading = records::confidences(case, from + OLD_RECORD * (i / POSITIONS));
         made[i] = reading[i % POSITIONS];
         i += 1;
     }

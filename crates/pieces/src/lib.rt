@@ -1,17 +1,9 @@
-// A capture that comes in pieces: how many of the bytes that are held make up whole records, and what is left of them kept for the next piece.
+// A capture that comes in pieces: what is left of the bytes that are held, kept for the next piece.
 ghost use mathlib.Core.Path.{_≡_};
 ghost use Prim.Native.Nat.{_-_, _≤_};
 ghost use lib.ListN.{length, drop};
 ghost use lib.Seq.{paste};
-ghost use Rattle.pieces.specs.Pieces.{wholes, Keeps};
-use records::RECORD;
-
-// How many of some bytes make up whole records.
-pub fn whole(count: usize) -> usize
-    ensures { λ r. ⌜ r ≡ wholes count ⌝ }
-{
-    count - count % RECORD
-}
+ghost use Rattle.pieces.specs.Pieces.{Keeps};
 
 // Moves the bytes from a place up to an end to the front.
 fn move_front(held: &mut [u8], from: usize, end: usize)
@@ -26,15 +18,16 @@ fn move_front(held: &mut [u8], from: usize, end: usize)
     }
 }
 
-// Moves what is left of the first bytes, after the whole records among them, to the front, and answers how many bytes that are. Where so many
-// are not held nothing is moved, and all are left.
-pub fn keep(held: &mut [u8], count: usize) -> usize
-    ensures { λ r. ⌜ Keeps count (now (held .entry)) (now (held .exit)) r ⌝ }
+// The same, and answers how many bytes that are. Where they are not there nothing is moved, and all up to the end are left.
+pub fn keep(held: &mut [u8], from: usize, end: usize) -> usize
+    ensures { λ r. ⌜ Keeps from end (now (held .entry)) (now (held .exit)) r ⌝ }
 {
-    if held.len() < count {
-        return count;
+    if end < from {
+        return end;
     }
-    let from = whole(count);
-    move_front(held, from, count);
-    count - from
+    if held.len() < end {
+        return end;
+    }
+    move_front(held, from, end);
+    end - from
 }

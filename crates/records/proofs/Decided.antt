@@ -1,27 +1,28 @@
--- Two answers that a promise allows are equal. The promise of `confidences` is an equation, which says so itself.
+-- Two answers that a promise allows are equal. The promises of `number` and `confidences` are equations, which say so themselves.
 -- Assumes nothing.
 use mathlib.Core.Path.{_≡_, refl, ap}
+use mathlib.Core.Bool.{Bool}
 use mathlib.Core.List.{List}
 use Prim.Native.Nat.{ℕ}
 use Rattle.golay.proofs.Decided.{said-once, reason, reason-number}
-use Rattle.records.specs.declared.kinds.Step.{Step}
-use Rattle.records.specs.declared.kinds.Step.the-variants.{End, Record, Stopped}
-use Rattle.records.specs.Records.{Standing, ended, stopped, whole, standsAt, nextFrom, stepAnswer}
+use Rattle.records.specs.declared.kinds.Stands.{Stands}
+use Rattle.records.specs.declared.kinds.Stands.the-variants.{End, Record, Stopped}
+use Rattle.records.specs.Records.{Standing, ended, stopped, whole, standsAt, inPiece, nextFrom, standsAnswer}
 
-step-again : Standing ℕ → Step
-step-again ended = End
-step-again (stopped n) = Stopped (reason n)
-step-again (whole next) = Record next
+stands-again : Standing ℕ → Stands
+stands-again ended = End
+stands-again (stopped n) = Stopped (reason n)
+stands-again (whole next) = Record next
 
-step-back : (r : Step) → step-again (stepAnswer r) ≡ r
-unfolding step-again
-step-back End = refl
-step-back (Record next) = refl
-step-back (Stopped r) = ap Stopped (reason-number r)
+stands-back : (r : Stands) → stands-again (standsAnswer r) ≡ r
+unfolding stands-again
+stands-back End = refl
+stands-back (Record next) = refl
+stands-back (Stopped r) = ap Stopped (reason-number r)
 
-pub step-decided :
-    (bytes : List ℕ) (at : ℕ) (x y : Step)
-    → stepAnswer x ≡ nextFrom at (standsAt bytes at)
-    → stepAnswer y ≡ nextFrom at (standsAt bytes at)
+pub stands-decided :
+    (bytes : List ℕ) (at : ℕ) (last : Bool) (x y : Stands)
+    → standsAnswer x ≡ nextFrom at (inPiece last (standsAt bytes at))
+    → standsAnswer y ≡ nextFrom at (inPiece last (standsAt bytes at))
     → x ≡ y
-step-decided bytes at = said-once stepAnswer step-again step-back
+stands-decided bytes at last = said-once standsAnswer stands-again stands-back

@@ -1,86 +1,140 @@
--- The run over a capture, record by record: what each answer of `step` makes of it, for whatever is told of its records.
+-- The run over a capture, record by record: what each answer of `stands_at` makes of it, for whatever is told of its records.
 -- Assumes nothing.
 use mathlib.Core.Path.{_≡_, refl, sym, ap, _∙_}
+use mathlib.Core.Bool.{Bool, false}
 use mathlib.Core.List.{List, [], _∷_}
-use Prim.Native.Nat.{ℕ, zero, suc, _+_, _≤_}
+use Prim.Native.Nat.{ℕ, zero, suc, _+_, _≤_, _<_}
 use native.Mathlib.Omega.{arith}
-use lib.IntN.{ℤ}
 use lib.ListN.{length, drop, length-drop}
 use lib.Seq.{drop-drop}
-use Rattle.records.specs.Records.{recordLength, Standing, ended, stopped, whole, standing, standsAt, nextFrom, readingOf}
-use Rattle.records.specs.Capture.{Telling, runAt, runIn, runFrom}
-use Rattle.records.proofs.Standing.{whole-known, next-ended, next-stopped, next-whole}
+use Rattle.sequence.specs.declared.kinds.Number.{Number}
+use Rattle.sequence.specs.Sequence.{previousAfter}
+use Rattle.records.specs.Records.{Record, newLength, lengthWith, recordLength, Standing, ended, stopped, whole, standing, standsAt, inPiece, nextFrom, numberOf}
+use Rattle.records.specs.Capture.{Telling, runAt, runIn, runFrom, Ending, ending}
+use Rattle.records.proofs.Standing.{heldBy, whole-long, piece-whole, ended-short, next-ended, next-stopped, next-whole}
 
-module _ {A : Type 0} (t : Telling A) where
+module _ {A : Type 0} (t : Telling A) (last : Bool) where
   -- the run after a record counts only where a record stands
   later-same :
-      (offset : ℕ) {x y : A} (s : Standing (List ℤ))
-      → ((reading : List ℤ) → s ≡ whole reading → x ≡ y)
-      → runAt t offset x s ≡ runAt t offset y s
-  later-same offset ended h = refl
-  later-same offset (stopped n) h = refl
-  later-same offset (whole reading) h = ap (t .atRecord reading) (h reading refl)
+      (previous : Number) (offset : ℕ) {f g : Record → A} (s : Standing Record)
+      → ((r : Record) → s ≡ whole r → f r ≡ g r)
+      → runAt t last previous offset f s ≡ runAt t last previous offset g s
+  later-same previous offset ended h = refl
+  later-same previous offset (stopped n) h = refl
+  later-same previous offset (whole r) h = ap (t .atRecord previous r) (h r refl)
 
-  nothing-left : (fuel offset : ℕ) (left : List ℕ) → length left ≤ 0 → runIn t fuel offset left ≡ t .atEnd
+  nothing-left :
+      (fuel : ℕ) (previous : Number) (offset : ℕ) (left : List ℕ)
+      → length left ≤ 0
+      → runIn t last fuel previous offset left ≡ t .atEnd previous offset
   unfolding runIn standing
-  nothing-left zero offset left h = refl
-  nothing-left (suc fuel) offset [] h = refl
-  nothing-left (suc fuel) offset (x ∷ left) h = let e : ⊥ = omega arith in absurd e
+  nothing-left zero previous offset left h = refl
+  nothing-left (suc fuel) previous offset [] h = refl
+  nothing-left (suc fuel) previous offset (x ∷ left) h = let e : ⊥ = omega arith in absurd e
 
   -- more fuel than bytes changes nothing
   enough :
-      (m n offset : ℕ) (left : List ℕ)
+      (m n : ℕ) (previous : Number) (offset : ℕ) (left : List ℕ)
       → length left ≤ m
       → length left ≤ n
-      → runIn t m offset left ≡ runIn t n offset left
+      → runIn t last m previous offset left ≡ runIn t last n previous offset left
   unfolding runIn
-  enough zero n offset left h l = sym (nothing-left n offset left h)
-  enough (suc m) zero offset left h l = nothing-left (suc m) offset left l
-  enough (suc m) (suc n) offset left h l =
-      later-same offset (standing left)
-      (λ reading e.
-      let k : recordLength ≤ length left = whole-known left e .0 in
-      enough m n (offset + recordLength) (drop recordLength left) (simp length-drop (omega arith)) (simp length-drop (omega arith)))
+  enough zero n previous offset left h l = sym (nothing-left n previous offset left h)
+  enough (suc m) zero previous offset left h l = nothing-left (suc m) previous offset left l
+  enough (suc m) (suc n) previous offset left h l =
+      later-same previous offset (inPiece last (standing left))
+      (λ r e.
+      let k = whole-long left (piece-whole last (standing left) e) in
+      enough m n (previousAfter previous (r .number)) (offset + recordLength r) (drop (recordLength r) left)
+      (simp length-drop (omega (arith, k .0, k .1)))
+      (simp length-drop (omega (arith, k .0, k .1))))
 
-  module _ (offset : ℕ) (left : List ℕ) where
-    run-standing :
-        runFrom t offset left
-        ≡ runAt t offset (runFrom t (offset + recordLength) (drop recordLength left)) (standing left)
+  -- the run after a record
+  abbrev after : Number → ℕ → List ℕ → Record → A
+  after previous offset left r = runFrom t last (previousAfter previous (r .number)) (offset + recordLength r) (drop (recordLength r) left)
+
+  module _ (previous : Number) (offset : ℕ) (left : List ℕ) where
+    run-standing : runFrom t last previous offset left ≡ runAt t last previous offset (after previous offset left) (inPiece last (standing left))
     unfolding runIn
     run-standing =
-        enough (length left) (suc (length left)) offset left (omega arith) (omega arith)
-        ∙ later-same offset (standing left)
-        (λ reading e.
-        enough (length left) (length (drop recordLength left)) (offset + recordLength) (drop recordLength left) (simp length-drop (omega arith)) (omega arith))
+        enough (length left) (suc (length left)) previous offset left (omega arith) (omega arith)
+        ∙ later-same previous offset (inPiece last (standing left))
+        (λ r e.
+        enough (length left) (length (drop (recordLength r) left)) (previousAfter previous (r .number)) (offset + recordLength r) (drop (recordLength r) left)
+        (simp length-drop (omega arith))
+        (omega arith))
 
     -- by what stands at the record's start
-    pub run-ended : standing left ≡ ended → runFrom t offset left ≡ t .atEnd
-    run-ended e = rw (run-standing, e)
+    pub run-ended : inPiece last (standing left) ≡ ended → runFrom t last previous offset left ≡ t .atEnd previous offset
+    run-ended e = run-standing ∙ ap (runAt t last previous offset (after previous offset left)) e
 
-    pub run-stopped : {n : ℕ} → standing left ≡ stopped n → runFrom t offset left ≡ t .atStop n offset
-    run-stopped e = rw (run-standing, e)
+    pub run-stopped : {n : ℕ} → inPiece last (standing left) ≡ stopped n → runFrom t last previous offset left ≡ t .atStop n previous offset
+    run-stopped e = run-standing ∙ ap (runAt t last previous offset (after previous offset left)) e
 
     pub run-whole :
-        {reading : List ℤ}
-        → standing left ≡ whole reading
-        → runFrom t offset left ≡ t .atRecord reading (runFrom t (offset + recordLength) (drop recordLength left))
-    run-whole e = rw (run-standing, e)
+        {r : Record}
+        → inPiece last (standing left) ≡ whole r
+        → runFrom t last previous offset left ≡ t .atRecord previous r (after previous offset left r)
+    run-whole e = run-standing ∙ ap (runAt t last previous offset (after previous offset left)) e
 
-  -- by what `step` says of a place of a capture
-  module _ (bytes : List ℕ) (at offset : ℕ) where
-    pub step-ended : nextFrom at (standsAt bytes at) ≡ ended → runFrom t offset (drop at bytes) ≡ t .atEnd
-    step-ended e = run-ended offset (drop at bytes) (next-ended at (standsAt bytes at) e)
+  -- by what `stands_at` says of a place, in bytes that begin at an offset
+  module _ (previous : Number) (offset : ℕ) (bytes : List ℕ) (at : ℕ) where
+    pub told-ended :
+        nextFrom at (inPiece last (standsAt bytes at)) ≡ ended
+        → runFrom t last previous (offset + at) (drop at bytes) ≡ t .atEnd previous (offset + at)
+    told-ended e = run-ended previous (offset + at) (drop at bytes) (next-ended at (inPiece last (standsAt bytes at)) e)
 
-    pub step-stopped : {n : ℕ} → nextFrom at (standsAt bytes at) ≡ stopped n → runFrom t offset (drop at bytes) ≡ t .atStop n offset
-    step-stopped e = run-stopped offset (drop at bytes) (next-stopped at (standsAt bytes at) e)
+    pub told-stopped :
+        {n : ℕ}
+        → nextFrom at (inPiece last (standsAt bytes at)) ≡ stopped n
+        → runFrom t last previous (offset + at) (drop at bytes) ≡ t .atStop n previous (offset + at)
+    told-stopped e = run-stopped previous (offset + at) (drop at bytes) (next-stopped at (inPiece last (standsAt bytes at)) e)
 
-    pub step-whole :
+    pub told-whole :
         {next : ℕ}
-        → nextFrom at (standsAt bytes at) ≡ whole next
-        → runFrom t offset (drop at bytes)
-        ≡ t .atRecord (readingOf (standsAt bytes at)) (runFrom t (offset + recordLength) (drop next bytes))
-    step-whole e =
-        let w = next-whole at (standsAt bytes at) e in
-        let later = drop-drop recordLength at bytes ∙ ap (λ (k : ℕ). drop k bytes) (sym (w .1)) in
-        run-whole offset (drop at bytes) (w .0)
-        ∙ ap (λ (left : List ℕ). t .atRecord (readingOf (standsAt bytes at)) (runFrom t (offset + recordLength) left)) later
+        → nextFrom at (inPiece last (standsAt bytes at)) ≡ whole next
+        → let s = standsAt bytes at in
+        runFrom t last previous (offset + at) (drop at bytes)
+        ≡ t .atRecord previous (heldBy s) (runFrom t last (previousAfter previous (numberOf s)) (offset + next) (drop next bytes))
+    told-whole {next} e =
+        let s = inPiece last (standsAt bytes at) in
+        let w = next-whole at s e in
+        let stands = w .0 ∙ sym (piece-whole last (standsAt bytes at) (w .0)) in
+        let place : offset + at + lengthWith (numberOf s) ≡ offset + next = omega (arith, w .1) in
+        let later : drop (lengthWith (numberOf s)) (drop at bytes) ≡ drop next bytes =
+        drop-drop (lengthWith (numberOf s)) at bytes ∙ ap (λ (k : ℕ). drop k bytes) (sym (w .1)) in
+        run-whole previous (offset + at) (drop at bytes) (w .0)
+        ∙ (λ i. t .atRecord previous (heldBy s) (runFrom t last (previousAfter previous (numberOf s)) (place i) (later i)))
+        ∙ ap
+        (λ (u : Standing Record). t .atRecord previous (heldBy u) (runFrom t last (previousAfter previous (numberOf u)) (offset + next) (drop next bytes)))
+        (w .0 ∙ sym (piece-whole last (standsAt bytes at) (w .0)))
+
+-- a run over a piece that more may follow, where it did not stop, leaves less than a record
+pub left-short :
+    (previous : Number) (offset : ℕ) (left : List ℕ)
+    → runFrom ending false previous offset left .stopped ≡ false
+    → offset + length left < runFrom ending false previous offset left .offset + newLength
+left-short previous offset left = within (length left) previous offset left (omega arith)
+  where
+    within :
+        (fuel : ℕ) (previous : Number) (offset : ℕ) (left : List ℕ)
+        → length left ≤ fuel
+        → runIn ending false fuel previous offset left .stopped ≡ false
+        → offset + length left < runIn ending false fuel previous offset left .offset + newLength
+    unfolding runIn
+    within zero previous offset left h e = omega arith
+    within (suc fuel) previous offset left h e = cases (inPiece false (standing left)) refl e
+      where
+        cases : (s : Standing Record)
+            → inPiece false (standing left) ≡ s
+            → runAt ending false previous offset
+            (λ r. runIn ending false fuel (previousAfter previous (r .number)) (offset + recordLength r) (drop (recordLength r) left)) s .stopped ≡ false
+            → offset + length left < runAt ending false previous offset
+            (λ r. runIn ending false fuel (previousAfter previous (r .number)) (offset + recordLength r) (drop (recordLength r) left)) s .offset + newLength
+        cases ended q e = omega (arith, ended-short left q)
+        cases (stopped n) q e = let z : _≡_ {A = ℕ} 0 1 = cc in absurd (omega arith)
+        cases (whole r) q e =
+            let k = whole-long left (piece-whole false (standing left) q) in
+            let long : length (drop (recordLength r) left) ≡ length left - recordLength r = length-drop (recordLength r) left in
+            let tail = within fuel (previousAfter previous (r .number)) (offset + recordLength r) (drop (recordLength r) left) (omega (arith, k .0, k .1, long)) e in
+            omega (arith, tail, k .0, k .1, long)

@@ -1,40 +1,66 @@
-// A capture as bytes: what stands at a place of it, and the confidences of a record. Each call answers for every slice and every place.
+// A capture as bytes: what stands at a place of it, and the number and the confidences of a record. Each call answers for every slice and every
+// place.
 ghost use mathlib.Core.Path.{_≡_};
 ghost use Prim.Native.Nat.{_+_, _≤_, _<_};
-ghost use lib.ListN.{length, drop};
+ghost use lib.ListN.{length, take, drop};
 ghost use Rattle.code.specs.Code.{positions};
-ghost use Rattle.records.specs.Records.{twosComplement, confidenceOf, confidencesOf, standsAt, nextFrom, readingOf, stepAnswer};
+ghost use Rattle.golay.specs.Bytes.{wordOf};
+ghost use Rattle.sequence.specs.declared.kinds.Number.the-variants.{Some};
+ghost use Rattle.records.specs.Records.{twosComplement, confidenceOf, confidencesOf, unfinished, inPiece, standsAt, nextFrom, numberOf, readingOf, standsAnswer};
 
 pub mod kinds;
 
 use golay::kinds::Refusal;
 use golay::wide;
-use kinds::Step;
+use kinds::Stands;
+use sequence::kinds::Number;
 
-pub const RECORD: usize = 98;
+pub const OLD_RECORD: usize = 98;
 
-// What stands at a record's start, at a place of a capture or of a part of it; past the end nothing is left. Stops with 10, 9, then 10.
-pub fn step(bytes: &[u8], at: usize) -> Step
-    ensures { λ r. ⌜ stepAnswer r ≡ nextFrom at (standsAt (now (bytes .entry)) at) ⌝ }
+pub const NEW_RECORD: usize = 100;
+
+// The 24 confidences.
+const READING: usize = 96;
+
+// A record that is not whole: cut short where the input has ended, else none yet.
+fn cut(last: bool) -> Stands
+    ensures { λ r. ⌜ standsAnswer r ≡ nextFrom 0 (inPiece last unfinished) ⌝ }
+{
+    if last {
+        Stands::Stopped(Refusal::CutShort)
+    } else {
+        Stands::End
+    }
+}
+
+// What stands at a record's start, at a place of a capture or of a piece of it, its last one or not; past the end nothing is left. Stops with
+// 10, 9, then 10.
+pub fn stands_at(bytes: &[u8], at: usize, last: bool) -> Stands
+    ensures { λ r. ⌜ standsAnswer r ≡ nextFrom at (inPiece last (standsAt (now (bytes .entry)) at)) ⌝ }
 {
     if bytes.len() <= at {
-        return Step::End;
+        return Stands::End;
     }
     let left = bytes.len() - at;
     if left == 1 {
-        return Step::Stopped(Refusal::CutShort);
+        return cut(last);
     }
     if bytes[at] != 0x49 {
-        return Step::Stopped(Refusal::NoMark);
+        return Stands::Stopped(Refusal::NoMark);
     }
-    if bytes[at + 1] != 0x43 {
-        return Step::Stopped(Refusal::NoMark);
+    if bytes[at + 1] == 0x43 {
+        if left < OLD_RECORD {
+            return cut(last);
+        }
+        return Stands::Record(at + OLD_RECORD);
     }
-    if left >= RECORD {
-        let next = at + RECORD;
-        return Step::Record(next);
+    if bytes[at + 1] != 0x44 {
+        return Stands::Stopped(Refusal::NoMark);
     }
-    Step::Stopped(Refusal::CutShort)
+    if left < NEW_RECORD {
+        return cut(last);
+    }
+    Stands::Record(at + NEW_RECORD)
 }
 
 // An i32 that holds the bits of a u32.
@@ -74,13 +100,39 @@ fn reading(bytes: &[u8], from: usize) -> [i32; 24]
     made
 }
 
-// The confidences of the record at a place; zeros where no whole record stands there.
+// The confidences of the record at a place, which are its last bytes; zeros where no whole record stands there.
 pub fn confidences(bytes: &[u8], at: usize) -> [i32; 24]
     ensures { λ r. ⌜ r ≡ readingOf (standsAt (now (bytes .entry)) at) ⌝ }
 {
-    match step(bytes, at) {
-        Step::Record(_) => reading(bytes, at + 2),
-        Step::End => [0i32; 24],
-        Step::Stopped(_) => [0i32; 24],
+    match stands_at(bytes, at, true) {
+        Stands::Record(next) => reading(bytes, next - READING),
+        Stands::End => [0i32; 24],
+        Stands::Stopped(_) => [0i32; 24],
+    }
+}
+
+// The number that two bytes from a place on hold.
+fn number_from(bytes: &[u8], from: usize) -> Number
+    requires { ⌜ from + 2 ≤ length (now bytes) ⌝ }
+    ensures { λ r. ⌜ r ≡ Some (wordOf (take 2 (drop from (now (bytes .entry))))) ⌝ }
+{
+    let a = bytes[from] as u16;
+    let b = bytes[from + 1] as u16;
+    Number::Some(a * 0x100 + b)
+}
+
+// The number of the record at a place; none where it is an old one, or no whole record stands there.
+pub fn number(bytes: &[u8], at: usize) -> Number
+    ensures { λ r. ⌜ r ≡ numberOf (standsAt (now (bytes .entry)) at) ⌝ }
+{
+    match stands_at(bytes, at, true) {
+        Stands::Record(next) => {
+            if next - at == OLD_RECORD {
+                return Number::None;
+            }
+            number_from(bytes, at + 2)
+        }
+        Stands::End => Number::None,
+        Stands::Stopped(_) => Number::None,
     }
 }

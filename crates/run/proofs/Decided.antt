@@ -11,8 +11,10 @@ use lib.ListN.{length, drop, length-append}
 use borrow.Author.Tests.{leb-true, leb-false, ltb-true, ltb-false}
 use Rattle.golay.specs.Answers.{Answer}
 use Rattle.lines.specs.Lines.{longest}
-use Rattle.records.specs.Records.{recordLength, Standing, ended, stopped, whole, standing}
-use Rattle.records.specs.Capture.{runAt, runIn, stopping}
+use Rattle.sequence.specs.declared.kinds.Number.{Number}
+use Rattle.sequence.specs.Sequence.{previousAfter}
+use Rattle.records.specs.Records.{Record, recordLength, Standing, ended, stopped, whole, standing, inPiece}
+use Rattle.records.specs.Capture.{runAt, runIn, Ending, ending}
 use Rattle.answers.proofs.Decoding.{a-decoder}
 use Rattle.pieces.proofs.Pieces.{keeps-once}
 use Rattle.run.specs.declared.kinds.Outcome.{Outcome}
@@ -41,39 +43,45 @@ turn-decided offset count held buffer = cases (leb count held) refl (room-decide
     cases false e R = no (λ T. omega (arith, leb-false count held e, T .bytes))
 
 -- an outcome by its fields
-outcome-same : {r s : Outcome} → r .put ≡ s .put → r .stopped ≡ s .stopped → r ≡ s
-outcome-same p q = λ i. record { put = p i; stopped = q i }
+outcome-same : {r s : Outcome} → r .put ≡ s .put → r .stopped ≡ s .stopped → r .through ≡ s .through → r .previous ≡ s .previous → r ≡ s
+outcome-same p q t n = λ i. record { put = p i; stopped = q i; through = t i; previous = n i }
 
 turned-same : {r s : Turned} → r .outcome ≡ s .outcome → r .left ≡ s .left → r .next ≡ s .next → r ≡ s
 turned-same p q e = λ i. record { outcome = p i; left = q i; next = e i }
 
 runs-once :
-    {offset : ℕ} {bytes before after later : List ℕ} {r s : Outcome}
-    → Runs offset bytes before after r
-    → Runs offset bytes before later s
+    {last : Bool} {previous : Number} {offset : ℕ} {bytes before after later : List ℕ} {r s : Outcome}
+    → Runs last previous offset bytes before after r
+    → Runs last previous offset bytes before later s
     → (after ≡ later) × (r ≡ s)
-runs-once R S =
+runs-once {offset = offset} {r = r} {s} R S =
     let p = R .text (a-decoder .0) (a-decoder .1) in
     let q = S .text (a-decoder .0) (a-decoder .1) in
-    (p .buffer ∙ sym (q .buffer), outcome-same (p .place ∙ sym (q .place)) (R .stopped ∙ sym (S .stopped)))
+    let e = R .ended ∙ sym (S .ended) in
+    let far : offset + r .through ≡ offset + s .through = ap (λ (e : Ending). e .offset) e in
+    let through : r .through ≡ s .through = omega (arith, far) in
+    (
+      p .buffer ∙ sym (q .buffer),
+      outcome-same (p .place ∙ sym (q .place)) (ap (λ (e : Ending). e .stopped) e) through (ap (λ (e : Ending). e .previous) e),
+    )
 
 pub run-once :
-    {offset : ℕ} {bytes before after later : List ℕ} {r s : Outcome}
-    → RunRule offset bytes before after r
-    → RunRule offset bytes before later s
+    {last : Bool} {previous : Number} {offset : ℕ} {bytes before after later : List ℕ} {r s : Outcome}
+    → RunRule last previous offset bytes before after r
+    → RunRule last previous offset bytes before later s
     → (after ≡ later) × (r ≡ s)
-run-once {offset} {bytes} {before} {after} {later} {r} {s} R S = cases (room-decided offset (length bytes) (length before))
+run-once {offset = offset} {bytes} {before} {after} {later} {r} {s} R S = cases (room-decided offset (length bytes) (length before))
   where
     cases : Decided (Room offset (length bytes) (length before)) → (after ≡ later) × (r ≡ s)
     cases (yes room) = runs-once (R .room room) (S .room room)
     cases (no none) = let (a, p) = R .none none in let (b, q) = S .none none in (a ∙ sym b, p ∙ sym q)
 
 pub turn-once :
-    {offset count : ℕ} {held before after later kept rest : List ℕ} {r s : Turned}
-    → TurnRule offset count held before after kept r
-    → TurnRule offset count held before later rest s
+    {previous : Number} {offset count : ℕ} {held before after later kept rest : List ℕ} {r s : Turned}
+    → TurnRule previous offset count held before after kept r
+    → TurnRule previous offset count held before later rest s
     → (after ≡ later) × (kept ≡ rest) × (r ≡ s)
-turn-once {offset} {count} {held} {before} {after} {later} {kept} {rest} {r} {s} R S =
+turn-once {offset = offset} {count} {held} {before} {after} {later} {kept} {rest} {r} {s} R S =
     cases (turn-decided offset count (length held) (length before))
   where
     cases : Decided (TurnRoom offset count (length held) (length before)) → (after ≡ later) × (kept ≡ rest) × (r ≡ s)
@@ -81,38 +89,47 @@ turn-once {offset} {count} {held} {before} {after} {later} {kept} {rest} {r} {s}
         let T = R .room room in
         let U = S .room room in
         let (e, o) = runs-once (T .ran) (U .ran) in
-        let (k, l) = keeps-once (T .keeps) (U .keeps) in
-        (e, k, turned-same o l (T .next ∙ sym (U .next)))
+        let through = ap (λ (o : Outcome). o .through) o in
+        let (k, l) = keeps-once (T .keeps) (rw (sym through) at (U .keeps)) in
+        (e, k, turned-same o l (T .next ∙ ap (λ (n : ℕ). offset + n) through ∙ sym (U .next)))
     cases (no none) = let (a, b, p) = R .none none in let (c, d, q) = S .none none in (a ∙ sym c, b ∙ sym d, p ∙ sym q)
 
 -- a run that stops tells it: so no run that has room ends as one that has none
-module _ (decode : List ℤ → Answer (ℕ × ℕ)) where
+module _ (decode : List ℤ → Answer (ℕ × ℕ)) (last : Bool) where
   stop-told :
-      (fuel offset : ℕ) (left : List ℕ)
-      → runIn stopping fuel offset left ≡ true
-      → 1 ≤ length (runIn (lines decode) fuel offset left)
+      (fuel : ℕ) (previous : Number) (offset : ℕ) (left : List ℕ)
+      → runIn ending last fuel previous offset left .stopped ≡ true
+      → 1 ≤ length (runIn (lines decode) last fuel previous offset left)
   unfolding runIn
-  stop-told zero offset left e = let z : _≡_ {A = ℕ} 0 1 = cc in absurd (omega arith)
-  stop-told (suc fuel) offset left e =
-      let later = offset + recordLength in
-      let rest = drop recordLength left in
-      cases (runIn stopping fuel later rest) (runIn (lines decode) fuel later rest) (standing left) (stop-told fuel later rest) e
+  stop-told zero previous offset left e = let z : _≡_ {A = ℕ} 0 1 = cc in absurd (omega arith)
+  stop-told (suc fuel) previous offset left e = cases (inPiece last (standing left)) e
     where
       cases :
-          (stops : Bool) (text : List ℕ) (s : Standing (List ℤ))
-          → (stops ≡ true → 1 ≤ length text)
-          → runAt stopping offset stops s ≡ true
-          → 1 ≤ length (runAt (lines decode) offset text s)
-      cases stops text ended told e = let z : _≡_ {A = ℕ} 0 1 = cc in absurd (omega arith)
-      cases stops text (stopped n) told e = simp length-append (omega arith)
-      cases stops text (whole reading) told e = simp length-append (omega (arith, told e))
+          (s : Standing Record)
+          → runAt ending last previous offset
+          (λ r. runIn ending last fuel (previousAfter previous (r .number)) (offset + recordLength r) (drop (recordLength r) left)) s .stopped ≡ true
+          → 1 ≤ length (runAt (lines decode) last previous offset
+          (λ r. runIn (lines decode) last fuel (previousAfter previous (r .number)) (offset + recordLength r) (drop (recordLength r) left)) s)
+      cases ended e = let z : _≡_ {A = ℕ} 0 1 = cc in absurd (omega arith)
+      cases (stopped n) e = simp length-append (omega arith)
+      cases (whole r) e =
+          let tail = stop-told fuel (previousAfter previous (r .number)) (offset + recordLength r) (drop (recordLength r) left) e in
+          simp length-append (omega (arith, tail))
 
-pub never-unrun : {offset : ℕ} {bytes before after : List ℕ} {r : Outcome} → Runs offset bytes before after r → r ≡ unrun → ⊥
-never-unrun {offset} {bytes} R e =
+pub never-unrun :
+    {last : Bool} {previous number : Number} {offset : ℕ} {bytes before after : List ℕ} {r : Outcome}
+    → Runs last previous offset bytes before after r
+    → r ≡ unrun number
+    → ⊥
+never-unrun {last} {previous} {offset = offset} {bytes} R e =
     let p = R .text (a-decoder .0) (a-decoder .1) in
-    let s = stop-told (a-decoder .0) (length bytes) offset bytes (sym (R .stopped) ∙ ap (λ (o : Outcome). o .stopped) e) in
+    let stops = ap (λ (e : Ending). e .stopped) (sym (R .ended)) ∙ ap (λ (o : Outcome). o .stopped) e in
+    let s = stop-told (a-decoder .0) last (length bytes) previous offset bytes stops in
     omega (arith, p .place, ap (λ (o : Outcome). o .put) e, s)
 
 -- the text of a run fits its buffer
-pub run-fits : {offset : ℕ} {bytes before after : List ℕ} {r : Outcome} → Runs offset bytes before after r → r .put ≤ length before
+pub run-fits :
+    {last : Bool} {previous : Number} {offset : ℕ} {bytes before after : List ℕ} {r : Outcome}
+    → Runs last previous offset bytes before after r
+    → r .put ≤ length before
 run-fits R = let p = R .text (a-decoder .0) (a-decoder .1) in omega (arith, p .room, p .place)

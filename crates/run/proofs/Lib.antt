@@ -1,3 +1,4 @@
 pub mod Pieces
+pub mod Old
 pub mod Upto
 pub mod Decided

@@ -1,70 +1,68 @@
--- Whole records in front are run through before the rest, which goes on from its own offset; so the turns over any pieces of a capture give the
--- lines of the capture in one.
+-- The turns over any pieces of a capture give the lines of the capture in one; and what a turn writes, and how it ended, is what they are made of.
 -- Assumes nothing.
 use mathlib.Core.Path.{_≡_, refl, sym, ap, _∙_}
-use mathlib.Core.Bool.{cond}
+use mathlib.Core.Bool.{Bool, true, false, cond}
 use mathlib.Core.List.{List, [], _∷_, _++_, append-assoc, append-nil}
-use Prim.Native.Nat.{ℕ, zero, suc, _+_, _*_, _≤_}
-use native.Mathlib.Nat.{add-zero}
-use native.Mathlib.Omega.{arith}
+use Prim.Native.Nat.{ℕ, zero, suc, _+_, _-_}
 use lib.IntN.{ℤ}
-use lib.ListN.{length, drop, length-drop}
-use lib.Seq.{drop-append-le}
+use lib.ListN.{length, drop}
 use Rattle.golay.specs.Answers.{Answer}
+use Rattle.sequence.specs.declared.kinds.Number.{Number}
+use Rattle.sequence.specs.Sequence.{followsFrom, previousAfter}
 use Rattle.lines.specs.Lines.{stoppedLine, answerLine}
-use Rattle.records.specs.Records.{recordLength, Standing, ended, stopped, whole, standing}
-use Rattle.records.specs.Capture.{Telling, runIn, stopping, stopsFrom}
-use Rattle.records.proofs.Standing.{ended-none, standing-front}
-use Rattle.records.proofs.Running.{run-stopped, run-whole}
-use Rattle.pieces.specs.Pieces.{allPieces, turnsFrom}
+use Rattle.records.specs.Records.{Record, recordLength, Standing, ended, stopped, whole, standing, inPiece}
+use Rattle.records.specs.Capture.{runAt, runIn, runFrom, Ending, ending}
+use Rattle.pieces.specs.Pieces.{allPieces, goingOn, turnsFrom}
 use Rattle.pieces.proofs.Pieces.{pieces-told}
 use Rattle.run.specs.Output.{lines, linesFrom}
 
+-- what goes on after a run: nothing where it stopped
+abbrev pub goesOn : (Number → ℕ → List ℕ) → Ending → List ℕ
+goesOn on e = cond (e .stopped) [] (on (e .previous) (e .offset))
+
 module _ (decode : List ℤ → Answer (ℕ × ℕ)) where
-  -- what is in front is run through first, and where it does not stop the run, the rest from its own start
-  abbrev Piece : ℕ → List ℕ → List ℕ → Type 0
-  Piece offset front rest =
-      linesFrom decode offset (front ++ rest)
-      ≡ linesFrom decode offset front ++ cond (stopsFrom offset front) [] (linesFrom decode (offset + length front) rest)
-
-  one-more :
-      (offset : ℕ) (front rest : List ℕ)
-      → recordLength ≤ length front
-      → Piece (offset + recordLength) (drop recordLength front) rest
-      → Piece offset front rest
-  one-more offset front rest long tail = cases (standing front) refl
-    where
-      t : Telling (List ℕ)
-      t = lines decode
-
-      both : standing (front ++ rest) ≡ standing front
-      both = standing-front front rest long
-
-      cases : (s : Standing (List ℤ)) → standing front ≡ s → Piece offset front rest
-      cases ended e = let z : ⊥ = omega (arith, ended-none front e) in absurd z
-      cases (stopped k) e =
-          run-stopped t offset (front ++ rest) (both ∙ e)
-          ∙ sym (append-nil (stoppedLine k offset))
-          ∙ sym (rw (run-stopped t offset front e, run-stopped stopping offset front e))
-      cases (whole reading) e =
-          let o = offset + recordLength in
-          let later = drop recordLength front in
-          let line = answerLine (decode reading) in
-          let count : o + length later ≡ offset + length front = simp length-drop (omega arith) in
-          run-whole t offset (front ++ rest) (both ∙ e)
-          ∙ ap (λ (l : List ℕ). line ++ linesFrom decode o l) (drop-append-le recordLength front rest long)
-          ∙ ap (λ (l : List ℕ). line ++ l) tail
-          ∙ sym (append-assoc line (linesFrom decode o later) (cond (stopsFrom o later) [] (linesFrom decode (o + length later) rest)))
-          ∙ (λ i. sym (run-whole t offset front e) i ++ cond (sym (run-whole stopping offset front e) i) [] (linesFrom decode (count i) rest))
-
-  pub lines-piece : (n offset : ℕ) (front rest : List ℕ) → length front ≡ n * recordLength → Piece offset front rest
+  run-goes :
+      (on : Number → ℕ → List ℕ) (last : Bool) (fuel : ℕ) (previous : Number) (offset : ℕ) (left : List ℕ)
+      → runIn (goingOn (lines decode) on) last fuel previous offset left
+      ≡ runIn (lines decode) last fuel previous offset left ++ goesOn on (runIn ending last fuel previous offset left)
   unfolding runIn
-  lines-piece zero offset [] rest l = ap (λ (k : ℕ). linesFrom decode k rest) (sym (add-zero offset))
-  lines-piece zero offset (x ∷ front) rest l = let e : ⊥ = omega arith in absurd e
-  lines-piece (suc n) offset front rest l =
-      one-more offset front rest (omega arith) (lines-piece n (offset + recordLength) (drop recordLength front) rest (simp length-drop (omega arith)))
+  run-goes on last zero previous offset left = refl
+  run-goes on last (suc fuel) previous offset left = cases (inPiece last (standing left))
+    where
+      later : Record → List ℕ
+      later r = runIn (goingOn (lines decode) on) last fuel (previousAfter previous (r .number)) (offset + recordLength r) (drop (recordLength r) left)
+
+      cases : (s : Standing Record)
+          → runAt (goingOn (lines decode) on) last previous offset
+          (λ r. runIn (goingOn (lines decode) on) last fuel (previousAfter previous (r .number)) (offset + recordLength r) (drop (recordLength r) left)) s
+          ≡ runAt (lines decode) last previous offset
+          (λ r. runIn (lines decode) last fuel (previousAfter previous (r .number)) (offset + recordLength r) (drop (recordLength r) left)) s
+          ++ goesOn on
+          (runAt ending last previous offset
+          (λ r. runIn ending last fuel (previousAfter previous (r .number)) (offset + recordLength r) (drop (recordLength r) left)) s)
+      cases ended = refl
+      cases (stopped n) = sym (append-nil (stoppedLine n offset))
+      cases (whole r) =
+          let p = previousAfter previous (r .number) in
+          let o = offset + recordLength r in
+          let rest = drop (recordLength r) left in
+          let line = answerLine (decode (r .reading)) (followsFrom previous (r .number)) in
+          ap (λ (l : List ℕ). line ++ l) (run-goes on last fuel p o rest)
+          ∙ sym (append-assoc line (runIn (lines decode) last fuel p o rest) (goesOn on (runIn ending last fuel p o rest)))
+
+  -- a turn: its text, and where it did not stop the turns after it, from where it ended
+  pub turns-go :
+      (previous : Number) (offset : ℕ) (held piece : List ℕ) (pieces : List (List ℕ))
+      → let bytes = held ++ piece in
+      turnsFrom (lines decode) previous offset held (piece ∷ pieces)
+      ≡ linesFrom decode false previous offset bytes
+      ++ goesOn (λ number next. turnsFrom (lines decode) number next (drop (next - offset) bytes) pieces) (runFrom ending false previous offset bytes)
+  unfolding turnsFrom
+  turns-go previous offset held piece pieces =
+      let bytes = held ++ piece in
+      run-goes (λ number next. turnsFrom (lines decode) number next (drop (next - offset) bytes) pieces) false (length bytes) previous offset bytes
 
   pub turns-text :
-      (offset : ℕ) (held : List ℕ) (pieces : List (List ℕ))
-      → turnsFrom (linesFrom decode) offset held pieces ≡ linesFrom decode offset (held ++ allPieces pieces)
-  turns-text = pieces-told (linesFrom decode) lines-piece
+      (previous : Number) (offset : ℕ) (held : List ℕ) (pieces : List (List ℕ))
+      → turnsFrom (lines decode) previous offset held pieces ≡ linesFrom decode true previous offset (held ++ allPieces pieces)
+  turns-text = pieces-told (lines decode)

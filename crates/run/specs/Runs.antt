@@ -1,4 +1,4 @@
--- Rules 12.4 and 13.1 over a part of a capture: what the run over some bytes leaves, and a turn over the bytes that are held.
+-- Rules 12.9 and 13.1 over a piece of a capture: what the run over some bytes leaves, and a turn over the bytes that are held.
 use mathlib.Core.Path.{_≡_}
 use mathlib.Core.Bool.{Bool, true, false}
 use mathlib.Core.List.{List}
@@ -8,9 +8,10 @@ use lib.ListN.{length, take}
 use Rattle.golay.specs.Answers.{Answer}
 use Rattle.lines.specs.Lines.{longest}
 use Rattle.texts.specs.Buffers.{Puts}
-use Rattle.records.specs.Capture.{stopsFrom}
+use Rattle.sequence.specs.declared.kinds.Number.{Number}
+use Rattle.records.specs.Capture.{runFrom, Ending, ending}
 use Rattle.answers.specs.Decoding.{Decoder}
-use Rattle.pieces.specs.Pieces.{wholes, Keeps}
+use Rattle.pieces.specs.Pieces.{Keeps}
 use Rattle.run.specs.Output.{linesFrom}
 use Rattle.run.specs.declared.kinds.Outcome.{Outcome}
 use Rattle.run.specs.declared.kinds.Turned.{Turned}
@@ -26,27 +27,32 @@ pub record Lacks (offset n buffer : ℕ) (r : Bool) : Type 0 where
   pub missing : r ≡ true → Room offset n buffer → ⊥
   pub found : r ≡ false → Room offset n buffer
 
--- Rules 13.1 and 12.4: the text of the bytes at the start of the buffer, how long it is, and whether the run stopped
-pub record Runs (offset : ℕ) (bytes before after : List ℕ) (r : Outcome) : Type 0 where
-  pub text : (decode : List ℤ → Answer (ℕ × ℕ)) → Decoder decode → Puts (linesFrom decode offset bytes) before 0 after (r .put)
-  pub stopped : r .stopped ≡ stopsFrom offset bytes
+-- how a run ended, by its outcome: whether it stopped, the previous number then, and the offset up to which it came
+abbrev pub endingOf : ℕ → Outcome → Ending
+endingOf offset r = record { stopped = r .stopped; previous = r .previous; offset = offset + r .through }
+
+-- Rules 13.1 and 12.9: of the last bytes of the input, or of others, which begin after a previous number and at an offset: the text at the start
+-- of the buffer, how long it is, and how the run ended
+pub record Runs (last : Bool) (previous : Number) (offset : ℕ) (bytes before after : List ℕ) (r : Outcome) : Type 0 where
+  pub text : (decode : List ℤ → Answer (ℕ × ℕ)) → Decoder decode → Puts (linesFrom decode last previous offset bytes) before 0 after (r .put)
+  pub ended : endingOf offset r ≡ runFrom ending last previous offset bytes
 
 -- the outcome of a run that has no room. No other is like it, since a run that stops puts the line of its stop: `never-unrun`,
 -- proofs/Decided.antt
-abbrev pub unrun : Outcome
-unrun = record { put = 0; stopped = true }
+abbrev pub unrun : Number → Outcome
+unrun previous = record { put = 0; stopped = true; through = 0; previous = previous }
 
 -- a run over any bytes into any buffer: without room nothing is written
-pub record RunRule (offset : ℕ) (bytes before after : List ℕ) (r : Outcome) : Type 0 where
-  pub room : Room offset (length bytes) (length before) → Runs offset bytes before after r
-  pub none : (Room offset (length bytes) (length before) → ⊥) → (after ≡ before) × (r ≡ unrun)
+pub record RunRule (last : Bool) (previous : Number) (offset : ℕ) (bytes before after : List ℕ) (r : Outcome) : Type 0 where
+  pub room : Room offset (length bytes) (length before) → Runs last previous offset bytes before after r
+  pub none : (Room offset (length bytes) (length before) → ⊥) → (after ≡ before) × (r ≡ unrun previous)
 
--- one turn over the first bytes that are held: the run over the whole records among them; then what is left of them is kept, from its
+-- one turn over the first bytes that are held, which more may follow: the run over them; then what it did not come through is kept, from its
 -- own offset on
-pub record Turns (offset count : ℕ) (held before after kept : List ℕ) (r : Turned) : Type 0 where
-  pub ran : Runs offset (take (wholes count) held) before after (r .outcome)
-  pub keeps : Keeps count held kept (r .left)
-  pub next : r .next ≡ offset + wholes count
+pub record Turns (previous : Number) (offset count : ℕ) (held before after kept : List ℕ) (r : Turned) : Type 0 where
+  pub ran : Runs false previous offset (take count held) before after (r .outcome)
+  pub keeps : Keeps (r .outcome .through) count held kept (r .left)
+  pub next : r .next ≡ offset + r .outcome .through
 
 -- room for a turn: the bytes are there, and their text has room
 pub record TurnRoom (offset count held buffer : ℕ) : Type 0 where
@@ -54,7 +60,7 @@ pub record TurnRoom (offset count held buffer : ℕ) : Type 0 where
   pub text : Room offset count buffer
 
 -- a turn over any bytes: without room nothing is written or moved, and all of them are left
-pub record TurnRule (offset count : ℕ) (held before after kept : List ℕ) (r : Turned) : Type 0 where
-  pub room : TurnRoom offset count (length held) (length before) → Turns offset count held before after kept r
+pub record TurnRule (previous : Number) (offset count : ℕ) (held before after kept : List ℕ) (r : Turned) : Type 0 where
+  pub room : TurnRoom offset count (length held) (length before) → Turns previous offset count held before after kept r
   pub none : (TurnRoom offset count (length held) (length before) → ⊥)
-      → (after ≡ before) × (kept ≡ held) × (r ≡ record { outcome = unrun; left = count; next = offset })
+      → (after ≡ before) × (kept ≡ held) × (r ≡ record { outcome = unrun previous; left = count; next = offset })

@@ -2,10 +2,15 @@
 ghost use mathlib.Core.Path.{_≡_};
 ghost use Rattle.run.specs.Runs as runs;
 
-// How many bytes of text the run put into the buffer, and whether it stopped: with 9 or 10, or, with nothing put, for want of room.
+use sequence::kinds::Number;
+
+// How many bytes of text the run put into the buffer; whether it stopped: with 9 or 10, or, with nothing put, for want of room; how many bytes
+// it came through, and the previous number then.
 pub struct Outcome {
     pub put: usize,
     pub stopped: bool,
+    pub through: usize,
+    pub previous: Number,
 }
 
 // How many bytes are left after a turn, and the offset of the first of them.
@@ -16,11 +21,13 @@ pub struct Turned {
 }
 
 // The outcome of a run that has no room.
-pub(crate) fn unrun() -> Outcome
-    ensures { λ r. ⌜ r ≡ runs.unrun ⌝ }
+pub(crate) fn unrun(previous: Number) -> Outcome
+    ensures { λ r. ⌜ r ≡ runs.unrun previous ⌝ }
 {
     Outcome {
         put: 0,
         stopped: true,
+        through: 0,
+        previous: previous,
     }
 }

@@ -6,10 +6,10 @@ use Prim.Native.Nat.{ℕ, _+_}
 use lib.ListN.{length, length-append}
 use Rattle.texts.specs.Texts.{decimal, lineOf, lineOfTwo}
 
-pub length-one : (word : List ℕ) (n : ℕ) → length (lineOf word n) ≡ length word + length (decimal n) + 1
-length-one word n = simp length-append
+pub length-one : (word : List ℕ) (n : ℕ) (end : List ℕ) → length (lineOf word n end) ≡ length word + length (decimal n) + length end
+length-one word n end = simp length-append
 
 pub length-two :
-    (word : List ℕ) (m : ℕ) (between : List ℕ) (n : ℕ)
-    → length (lineOfTwo word m between n) ≡ length word + length (decimal m) + length between + length (decimal n) + 1
-length-two word m between n = simp length-append
+    (word : List ℕ) (m : ℕ) (between : List ℕ) (n : ℕ) (end : List ℕ)
+    → length (lineOfTwo word m between n end) ≡ length word + length (decimal m) + length between + length (decimal n) + length end
+length-two word m between n end = simp length-append

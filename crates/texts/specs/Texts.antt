@@ -19,9 +19,9 @@ decimal n = digits 10 (placesIn n n) n
 abbrev pub lineFeed : List ℕ
 lineFeed = ascii "\n"
 
--- a line of one number, and a line of two, after their words
-abbrev pub lineOf : List ℕ → ℕ → List ℕ
-lineOf word n = word ++ decimal n ++ lineFeed
+-- a line of one number, and a line of two, after their words, and what the line ends with
+abbrev pub lineOf : List ℕ → ℕ → List ℕ → List ℕ
+lineOf word n end = word ++ decimal n ++ end
 
-abbrev pub lineOfTwo : List ℕ → ℕ → List ℕ → ℕ → List ℕ
-lineOfTwo word m between n = word ++ decimal m ++ between ++ decimal n ++ lineFeed
+abbrev pub lineOfTwo : List ℕ → ℕ → List ℕ → ℕ → List ℕ → List ℕ
+lineOfTwo word m between n end = word ++ decimal m ++ between ++ decimal n ++ end

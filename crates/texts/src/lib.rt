@@ -2,15 +2,12 @@
 // buffer changes, and the answer is the place itself.
 ghost use mathlib.Core.Path.{_≡_};
 ghost use mathlib.Core.List.{_++_};
-ghost use Prim.Native.Nat.{_+_, _-_, _≤_, _<_, _^_};
+ghost use Prim.Native.Nat.{_+_, _-_, _≤_};
 ghost use lib.Dec.{ltb};
 ghost use lib.ListN.{length, take};
 ghost use Rattle.io.specs.Counts.{Counts};
 ghost use Rattle.texts.specs.Texts.{decimal, lineOf, lineOfTwo};
 ghost use Rattle.texts.specs.Buffers.{Puts, Writes};
-
-// No slice has more bytes.
-const LARGEST: usize = 0x7FFF_FFFF_FFFF_FFFF;
 
 // How many bytes a buffer of a length has from a place on.
 fn room(length: usize, at: usize) -> usize
@@ -50,17 +47,16 @@ fn spell(n: u64, digits: &mut [u8; 20]) -> usize
     io::decimal(n, digits)
 }
 
-// Whether a line goes beyond a buffer of a length: so many bytes of words, so many digits, and a line feed. Words that are longer than any
-// buffer do, and of others no sum overflows.
-fn exceeds(words: usize, digits: usize, length: usize, at: usize) -> bool
-    requires { ⌜ digits ≤ 40 ⌝ }
-    requires { ⌜ length < 2 ^ 63 ⌝ }
-    ensures { λ r. ⌜ r ≡ ltb length (at + (words + digits + 1)) ⌝ }
+// Whether a line goes beyond a buffer of a length: so many bytes of words, and so many more, tested one after the other, since their sum may
+// overflow.
+fn exceeds(words: usize, more: usize, length: usize, at: usize) -> bool
+    ensures { λ r. ⌜ r ≡ ltb length (at + (words + more)) ⌝ }
 {
-    if words > LARGEST {
+    let left = room(length, at);
+    if left < words {
         return true;
     }
-    room(length, at) < words + digits + 1
+    left - words < more
 }
 
 // A text as it is.
@@ -76,31 +72,33 @@ pub fn write_text(text: &[u8], out: &mut [u8], at: usize) -> usize
     copy(text, out, at)
 }
 
-// A word, a number and a line feed.
-pub fn write_one(word: &[u8], n: u64, out: &mut [u8], at: usize) -> usize
-    ensures { λ r. ⌜ Writes (lineOf (now (word .entry)) n) (now (out .entry)) at (now (out .exit)) r ⌝ }
+// A word, a number and what the line ends with.
+pub fn write_one(word: &[u8], n: u64, end: &[u8], out: &mut [u8], at: usize) -> usize
+    ensures { λ r. ⌜ Writes (lineOf (now (word .entry)) n (now (end .entry))) (now (out .entry)) at (now (out .exit)) r ⌝ }
 {
     let mut digits = [0u8; 20];
     let k = spell(n, &mut digits);
-    if exceeds(word.len(), k, out.len(), at) {
+    if exceeds(word.len(), k + end.len(), out.len(), at) {
         return at;
     }
     let p = copy_both(word, &digits[..k], out, at);
-    copy(b"\n", out, p)
+    copy(end, out, p)
 }
 
-// A word, a number, a word, a number and a line feed.
-pub fn write_two(word: &[u8], m: u64, between: &[u8], n: u64, out: &mut [u8], at: usize) -> usize
-    ensures { λ r. ⌜ Writes (lineOfTwo (now (word .entry)) m (now (between .entry)) n) (now (out .entry)) at (now (out .exit)) r ⌝ }
+// A word, a number, a word, a number and what the line ends with.
+pub fn write_two(word: &[u8], m: u64, between: &[u8], n: u64, end: &[u8], out: &mut [u8], at: usize) -> usize
+    ensures {
+        λ r. ⌜ Writes (lineOfTwo (now (word .entry)) m (now (between .entry)) n (now (end .entry))) (now (out .entry)) at (now (out .exit)) r ⌝
+    }
 {
     let mut first = [0u8; 20];
     let mut second = [0u8; 20];
     let j = spell(m, &mut first);
     let k = spell(n, &mut second);
-    if exceeds(word.len() + between.len(), j + k, out.len(), at) {
+    if exceeds(word.len() + between.len(), j + k + end.len(), out.len(), at) {
         return at;
     }
     let p = copy_both(word, &first[..j], out, at);
     let q = copy_both(between, &second[..k], out, p);
-    copy(b"\n", out, q)
+    copy(end, out, q)
 }

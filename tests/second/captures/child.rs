@@ -26,8 +26,11 @@ pub enum Input {
 pub struct Pieces {
     pub first: usize,
     pub next: usize,
-    pub pause: Duration,
 }
+
+/// The pause after the first piece lets the program start and read it before the rest comes.
+const FIRST_PAUSE: Duration = Duration::from_millis(30);
+const PAUSE: Duration = Duration::from_millis(1);
 
 pub struct Written {
     pub output: Vec<u8>,
@@ -107,13 +110,17 @@ fn ended(mut child: Child, trial: &Trial) -> io::Result<Output> {
 
 fn feed(mut pipe: ChildStdin, pieces: Pieces, bytes: &[u8]) -> io::Result<()> {
     let (first, rest) = bytes.split_at(pieces.first.min(bytes.len()));
-    for piece in iter::once(first).chain(rest.chunks(pieces.next)) {
+    let pauses = iter::once(FIRST_PAUSE).chain(iter::repeat(PAUSE));
+    for (piece, pause) in iter::once(first)
+        .chain(rest.chunks(pieces.next))
+        .zip(pauses)
+    {
         match pipe.write_all(piece) {
             // The program need not read on once the run has stopped.
             Err(reason) if reason.kind() == ErrorKind::BrokenPipe => return Ok(()),
             written => written?,
         }
-        thread::sleep(pieces.pause);
+        thread::sleep(pause);
     }
     Ok(())
 }

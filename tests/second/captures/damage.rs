@@ -1,13 +1,15 @@
 //! Damage to a capture as a bad link or a bad disk does it.
 
-use crate::capture::{MARK, RECORD};
+use crate::capture::{starts, HEAD, NEW_MARK, NEW_RECORD, OLD_MARK, OLD_RECORD};
 use crate::chance::Chance;
 use std::ops::Range;
 
 /// Makes a damaged capture of a capture; the second one lends bytes where some come in.
 type Damage = fn(&mut Chance, &[u8], &[u8]) -> Vec<u8>;
 
-const DAMAGES: [Damage; 6] = [flipped, inserted, removed, duplicated, truncated, spliced];
+const DAMAGES: [Damage; 7] = [
+    flipped, marked, inserted, removed, duplicated, truncated, spliced,
+];
 const MOST_DAMAGES: u64 = 3;
 
 pub fn damaged(chance: &mut Chance, capture: &[u8], other: &[u8]) -> Vec<u8> {
@@ -18,21 +20,21 @@ pub fn damaged(chance: &mut Chance, capture: &[u8], other: &[u8]) -> Vec<u8> {
     bytes
 }
 
-/// A place up to the end; every second one lies at a record's start, where two bytes in 98 decide.
+/// A place up to the end; every second one lies in a record's first bytes, where the mark and the
+/// number decide.
 fn place(chance: &mut Chance, bytes: &[u8]) -> usize {
-    let any = chance.below(bytes.len() as u64 + 1) as usize;
     if chance.one_in(2) {
-        any
+        chance.below(bytes.len() as u64 + 1) as usize
     } else {
-        let start = any - any % RECORD + chance.below(MARK.len() as u64) as usize;
-        start.min(bytes.len())
+        let start = chance.pick(&starts(bytes));
+        (start + chance.below(HEAD as u64) as usize).min(bytes.len())
     }
 }
 
 /// Some bytes at a place, mostly few, at times more than a record.
 fn run(chance: &mut Chance, bytes: &[u8]) -> Range<usize> {
     let start = place(chance, bytes);
-    let most = chance.pick(&[1, 4, RECORD, 2 * RECORD]) as u64;
+    let most = chance.pick(&[1, 4, OLD_RECORD, 2 * NEW_RECORD]) as u64;
     let length = 1 + chance.below(most) as usize;
     start..(start + length).min(bytes.len())
 }
@@ -50,9 +52,16 @@ fn flipped(chance: &mut Chance, bytes: &[u8], _: &[u8]) -> Vec<u8> {
     replaced(bytes, taken, &turned)
 }
 
+/// A mark at a record's start: every second one turns the record into one of the other kind.
+fn marked(chance: &mut Chance, bytes: &[u8], _: &[u8]) -> Vec<u8> {
+    let start = chance.pick(&starts(bytes));
+    let mark = chance.pick(&[OLD_MARK, NEW_MARK]);
+    replaced(bytes, start..(start + mark.len()).min(bytes.len()), &mark)
+}
+
 fn inserted(chance: &mut Chance, bytes: &[u8], _: &[u8]) -> Vec<u8> {
     let at = place(chance, bytes);
-    let length = 1 + chance.below(RECORD as u64) as usize;
+    let length = 1 + chance.below(NEW_RECORD as u64) as usize;
     replaced(bytes, at..at, &chance.bytes(length))
 }
 

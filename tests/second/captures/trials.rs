@@ -2,12 +2,14 @@
 
 use super::child::{Input, Pieces};
 use super::damage::damaged;
-use crate::capture::{record, MARK, RECORD};
+use super::pieces::in_pieces;
+use super::records::{records, records_of_numbers, UNEVEN};
+use crate::capture::{new_record, old_record, starts, NEW_MARK, OLD_MARK};
 use crate::chance::Chance;
-use crate::code::{Code, POSITIONS};
+use crate::code::{Code, MESSAGES, POSITIONS};
 use crate::decoders::FORBIDDEN;
-use crate::readings::{KINDS, MOST};
-use std::time::Duration;
+use crate::numbers::after;
+use crate::readings::{speaking_for, MOST};
 
 pub struct Trial {
     /// No two have the same name: it names the file.
@@ -16,43 +18,45 @@ pub struct Trial {
     pub input: Input,
 }
 
-/// The program reads 64 KiB at a time; these many of them are whole records.
-const PIECE: usize = 65_536;
-const RECORDS_IN_A_PIECE: usize = PIECE / RECORD;
+/// README.md has this number too. What the other trials leave of it are damaged captures.
+pub const TRIALS: usize = 11_240;
 
 const LONG_RECORDS: usize = 100_000;
+const LONGEST_LINES: i64 = 6_000;
 const LONGEST_CUT: usize = 300;
 const CHANGED_BYTES: usize = 400;
 const RANDOM: usize = 60;
-const DAMAGED: usize = 10_000;
 
-/// What a changed byte becomes at a mark: bytes of the mark, their neighbours and the ends.
-const MARK_BYTES: [u8; 7] = [0x00, 0x0A, 0x42, 0x43, 0x44, 0x49, 0xFF];
+/// What a changed byte becomes at a mark: bytes of the marks, their neighbours and the ends.
+const MARK_BYTES: [u8; 8] = [0x00, 0x0A, 0x42, 0x43, 0x44, 0x45, 0x49, 0xFF];
 
-const WHOLE: [Input; 3] = [Input::Argument, Input::StandardInput, Input::Dash];
+/// Previous numbers at and beside the ends of what is counted with one byte, with two, and with a
+/// sign.
+const PREVIOUS: [u16; 12] = [
+    0, 1, 2, 255, 256, 32_766, 32_767, 32_768, 32_769, 65_533, 65_534, 65_535,
+];
 
-const BYTE_BY_BYTE: Input = Input::Pipe(Pieces {
-    first: 1,
-    next: 1,
-    pause: Duration::from_millis(1),
-});
+pub const WHOLE: [Input; 3] = [Input::Argument, Input::StandardInput, Input::Dash];
+
+const BYTE_BY_BYTE: Input = Input::Pipe(Pieces { first: 1, next: 1 });
 
 pub fn trials(code: &Code, chance: &mut Chance) -> Vec<Trial> {
     // The longest comes first, so that the other thread goes on meanwhile.
     let mut trials = vec![long(code, chance)];
+    trials.extend(longest_lines(code));
     trials.extend(unreadable());
     trials.extend(short());
     trials.extend(cut(code, chance));
     trials.extend(changed(code, chance));
     trials.extend(random(code, chance));
-    trials.extend(near_pieces(code, chance));
-    trials.extend(marks_near_a_piece(code, chance));
-    trials.extend(in_two_pieces(code, chance));
-    trials.extend((0..DAMAGED).map(|i| fuzzed(code, chance, i)));
+    trials.extend(steps(code, chance));
+    trials.extend(in_pieces(code, chance));
+    let others = trials.len();
+    trials.extend((others..TRIALS).map(|i| fuzzed(code, chance, i)));
     trials
 }
 
-fn trial(name: String, bytes: &[u8], input: Input) -> Trial {
+pub fn trial(name: String, bytes: &[u8], input: Input) -> Trial {
     Trial {
         name,
         bytes: bytes.to_vec(),
@@ -60,30 +64,28 @@ fn trial(name: String, bytes: &[u8], input: Input) -> Trial {
     }
 }
 
-/// Mostly the kinds of readings that the decoders are tried on; now and then one of extremes, with
-/// the refused confidence among them.
-fn reading(code: &Code, chance: &mut Chance) -> Vec<i32> {
-    if chance.one_in(8) {
-        let ends = [FORBIDDEN, -MOST as i32, -1, 0, 1, MOST as i32];
-        let most = chance.between(1, ends.len() as i64) as usize;
-        (0..POSITIONS)
-            .map(|_| chance.pick(&ends[ends.len() - most..]))
-            .collect()
-    } else {
-        chance.pick(&KINDS)(chance, code)
-    }
-}
-
-fn records(code: &Code, chance: &mut Chance, many: usize) -> Vec<u8> {
-    (0..many)
-        .flat_map(|_| record(&reading(code, chance)))
-        .collect()
-}
-
 /// One byte too many, so that an offset of seven digits is printed.
 fn long(code: &Code, chance: &mut Chance) -> Trial {
-    let bytes = [records(code, chance, LONG_RECORDS), vec![MARK[0]]].concat();
+    let half = LONG_RECORDS / 2;
+    let bytes = [records(code, chance, half, half), vec![OLD_MARK[0]]].concat();
     trial("long".to_string(), &bytes, Input::Argument)
+}
+
+/// The longest lines that there are, which is 24 bytes each where all are repeats, and those with the
+/// largest losses; together they fill twice what the program writes at a time.
+fn longest_lines(code: &Code) -> Vec<Trial> {
+    let last = code.codewords[MESSAGES as usize - 1];
+    let reading = speaking_for(last, &[MOST; POSITIONS]);
+    let of_step = |(name, step): (&str, i64)| {
+        let bytes: Vec<u8> = (0..LONGEST_LINES)
+            .flat_map(|i| new_record(after(0, i * step), &reading))
+            .collect();
+        trial(format!("longest-lines-{name}"), &bytes, Input::Argument)
+    };
+    [("repeat", 0), ("lost", 32_768)]
+        .into_iter()
+        .map(of_step)
+        .collect()
 }
 
 fn unreadable() -> Vec<Trial> {
@@ -99,20 +101,34 @@ fn unreadable() -> Vec<Trial> {
         .collect()
 }
 
-/// The worked capture (13.7) and the least ones, each given in every way.
+/// The worked captures (13.7, 13.9) and the least ones, each given in every way.
 fn short() -> Vec<Trial> {
-    let (ones, zeros) = (record(&[1; POSITIONS]), record(&[0; POSITIONS]));
-    let refused = record(&[FORBIDDEN; POSITIONS]);
+    let (ones, zeros) = (old_record(&[1; POSITIONS]), old_record(&[0; POSITIONS]));
+    let refused = old_record(&[FORBIDDEN; POSITIONS]);
+    let numbered = |numbers: [u16; 4]| {
+        numbers
+            .map(|number| new_record(number, &[1; POSITIONS]))
+            .concat()
+    };
+    let new_refused = new_record(0, &[FORBIDDEN; POSITIONS]);
     let captures = [
-        ("worked", [&ones[..], &zeros, &MARK[..1]].concat()),
+        ("worked", [&ones[..], &zeros, &OLD_MARK[..1]].concat()),
+        ("worked-numbers", numbered([7, 9, 9, 8])),
+        ("wrap", numbered([65_534, 65_535, 0, 1])),
         ("empty", Vec::new()),
-        ("mark", MARK.to_vec()),
-        ("mark-begun", MARK[..1].to_vec()),
-        ("other-byte", vec![MARK[1]]),
-        ("other-bytes", vec![MARK[1], MARK[0]]),
+        ("old-mark", OLD_MARK.to_vec()),
+        ("new-mark", NEW_MARK.to_vec()),
+        ("new-mark-and-number", new_refused[..4].to_vec()),
+        ("mark-begun", OLD_MARK[..1].to_vec()),
+        ("other-byte", vec![OLD_MARK[1]]),
+        ("other-bytes", vec![OLD_MARK[1], OLD_MARK[0]]),
         ("line-feed", vec![b'\n']),
         ("ones", ones.clone()),
-        ("refused-and-mark", [&refused[..], &MARK].concat()),
+        ("refused-and-mark", [&refused[..], &OLD_MARK].concat()),
+        (
+            "refused-and-new-mark",
+            [&new_refused[..], &NEW_MARK].concat(),
+        ),
     ];
     let inputs = [&WHOLE[..], &[BYTE_BY_BYTE]].concat();
     let mut trials = Vec::new();
@@ -124,111 +140,103 @@ fn short() -> Vec<Trial> {
     trials
 }
 
-fn cut(code: &Code, chance: &mut Chance) -> Vec<Trial> {
-    let bytes = records(code, chance, LONGEST_CUT / RECORD + 1);
-    let cut = |length| {
-        let input = WHOLE[length % WHOLE.len()];
-        trial(format!("cut-{length}"), &bytes[..length], input)
-    };
-    (0..=LONGEST_CUT).map(cut).collect()
+/// Five old records; and new ones with old ones among them.
+fn old_and_uneven(code: &Code, chance: &mut Chance) -> [(&'static str, Vec<u8>); 2] {
+    [
+        ("old", records(code, chance, 5, 0)),
+        ("uneven", records_of_numbers(code, chance, &UNEVEN)),
+    ]
 }
 
-fn changed(code: &Code, chance: &mut Chance) -> Vec<Trial> {
-    let bytes = &records(code, chance, CHANGED_BYTES / RECORD + 1)[..CHANGED_BYTES];
+fn cut(code: &Code, chance: &mut Chance) -> Vec<Trial> {
     let mut trials = Vec::new();
-    for place in 0..CHANGED_BYTES {
-        let other = bytes[place] ^ chance.between(1, 255) as u8;
-        let tried = if place % RECORD < MARK.len() {
-            MARK_BYTES.to_vec()
-        } else {
-            vec![other]
-        };
-        for byte in tried {
-            let mut bytes = bytes.to_vec();
-            bytes[place] = byte;
-            let input = WHOLE[place % WHOLE.len()];
-            trials.push(trial(format!("changed-{place}-{byte}"), &bytes, input));
+    for (kind, bytes) in old_and_uneven(code, chance) {
+        for length in 0..=LONGEST_CUT {
+            let input = WHOLE[length % WHOLE.len()];
+            trials.push(trial(
+                format!("cut-{kind}-{length}"),
+                &bytes[..length],
+                input,
+            ));
         }
     }
     trials
 }
 
-/// Random bytes, bare and behind a mark, and random records.
-fn random(code: &Code, chance: &mut Chance) -> Vec<Trial> {
+fn changed(code: &Code, chance: &mut Chance) -> Vec<Trial> {
     let mut trials = Vec::new();
-    for i in 0..RANDOM {
-        let input = WHOLE[i % WHOLE.len()];
-        let bare = chance.bytes(4 * i);
-        trials.push(trial(format!("bytes-{i}"), &bare, input));
-        let marked = [&MARK, &bare[..]].concat();
-        trials.push(trial(format!("marked-bytes-{i}"), &marked, input));
-        let bytes = records(code, chance, i);
-        trials.push(trial(format!("records-{i}"), &bytes, input));
-    }
-    trials
-}
-
-/// Lengths from a record below to a record above the multiples of a piece and of the whole records
-/// in it, given whole and in odd pieces.
-fn near_pieces(code: &Code, chance: &mut Chance) -> Vec<Trial> {
-    let odd_pieces = Input::Pipe(Pieces {
-        first: 97,
-        next: PIECE / 2 - 1,
-        pause: Duration::from_micros(100),
-    });
-    let inputs = [&WHOLE[..], &[odd_pieces]].concat();
-    let bytes = records(code, chance, 4 * RECORDS_IN_A_PIECE);
-    let mut trials = Vec::new();
-    for unit in [PIECE, RECORDS_IN_A_PIECE * RECORD] {
-        for many in 1..=3 {
-            for (i, more) in [0, 1, 96, 97, 98, 99, 100, 195, 196]
-                .into_iter()
-                .enumerate()
-            {
-                let length = many * unit - RECORD + more;
-                let input = inputs[(i + many) % inputs.len()];
-                trials.push(trial(format!("length-{length}"), &bytes[..length], input));
+    for (kind, bytes) in old_and_uneven(code, chance) {
+        let bytes = &bytes[..CHANGED_BYTES];
+        let starts = starts(bytes);
+        for place in 0..CHANGED_BYTES {
+            let other = bytes[place] ^ chance.between(1, 255) as u8;
+            let is_in_mark = starts
+                .iter()
+                .any(|&start| [start, start + 1].contains(&place));
+            let tried = if is_in_mark {
+                MARK_BYTES.to_vec()
+            } else {
+                vec![other]
+            };
+            for byte in tried {
+                let mut bytes = bytes.to_vec();
+                bytes[place] = byte;
+                let input = WHOLE[place % WHOLE.len()];
+                let name = format!("changed-{kind}-{place}-{byte}");
+                trials.push(trial(name, &bytes, input));
             }
         }
     }
     trials
 }
 
-/// Each byte of the marks around the end of the first piece is wrong in one of these.
-fn marks_near_a_piece(code: &Code, chance: &mut Chance) -> Vec<Trial> {
-    let bytes = records(code, chance, RECORDS_IN_A_PIECE + 3);
+/// Random bytes, bare and behind either mark, random old records, and random records of both kinds.
+fn random(code: &Code, chance: &mut Chance) -> Vec<Trial> {
     let mut trials = Vec::new();
-    for number in RECORDS_IN_A_PIECE - 1..RECORDS_IN_A_PIECE + 3 {
-        for place in [RECORD * number, RECORD * number + 1] {
-            let mut bytes = bytes.clone();
-            bytes[place] ^= 1;
-            trials.push(trial(format!("mark-{place}"), &bytes, Input::Argument));
+    for i in 0..RANDOM {
+        let bare = chance.bytes(4 * i);
+        let new = chance.below(i as u64 + 1) as usize;
+        let captures = [
+            ("bytes", bare.clone()),
+            ("old-mark-and-bytes", [&OLD_MARK, &bare[..]].concat()),
+            ("new-mark-and-bytes", [&NEW_MARK, &bare[..]].concat()),
+            ("old-records", records(code, chance, i, 0)),
+            ("records", records(code, chance, i - new, new)),
+        ];
+        for (name, bytes) in captures {
+            let input = WHOLE[i % WHOLE.len()];
+            trials.push(trial(format!("{name}-{i}"), &bytes, input));
         }
     }
     trials
 }
 
-/// A short capture and one longer than a piece, the pipe's first piece ending at every place of a
-/// record. The pause lets the program start and read it before the rest comes.
-fn in_two_pieces(code: &Code, chance: &mut Chance) -> Vec<Trial> {
-    let bytes = records(code, chance, RECORDS_IN_A_PIECE + 3);
-    let short = &bytes[..3 * RECORD + 1];
+/// Every step at and beside the ends of what a step tells (12.6), old records between some. The last
+/// number is one count from the first, and tells which number was kept (12.7).
+fn steps(code: &Code, chance: &mut Chance) -> Vec<Trial> {
     let mut trials = Vec::new();
-    for first in 1..=RECORD {
-        let input = Input::Pipe(Pieces {
-            first,
-            next: PIECE,
-            pause: Duration::from_millis(30),
-        });
-        trials.push(trial(format!("two-pieces-{first}"), short, input));
-        trials.push(trial(format!("two-long-pieces-{first}"), &bytes, input));
+    for previous in PREVIOUS {
+        for step in (-3..=3).chain(32_765..=32_771) {
+            let number = after(previous, step);
+            let mut numbers = vec![Some(previous), Some(number), Some(after(previous, 1))];
+            for place in [2, 1] {
+                if chance.one_in(2) {
+                    numbers.insert(place, None);
+                }
+            }
+            let bytes = records_of_numbers(code, chance, &numbers);
+            let input = WHOLE[trials.len() % WHOLE.len()];
+            trials.push(trial(format!("step-{previous}-{number}"), &bytes, input));
+        }
     }
     trials
 }
 
 fn fuzzed(code: &Code, chance: &mut Chance, i: usize) -> Trial {
     let many = chance.between(1, 6) as usize;
-    let (capture, other) = (records(code, chance, many), records(code, chance, 2));
+    let new = chance.below(many as u64 + 1) as usize;
+    let capture = records(code, chance, many - new, new);
+    let other = records(code, chance, 1, 1);
     let bytes = damaged(chance, &capture, &other);
     trial(format!("fuzzed-{i}"), &bytes, WHOLE[i % WHOLE.len()])
 }

@@ -1,7 +1,7 @@
 -- `answers::write_answer` meets its contract: the soft decoder's answer is the one that any decoder tells, and its line is short.
 -- Assumes nothing.
 use mathlib.Core.Path.{ap, sym, _∙_}
-use Prim.Native.Nat.{_<_, _^_}
+use Prim.Native.Nat.{ℕ, _<_, _^_}
 use borrow.Author.Needs.{needs}
 use lib.IntN.{natAbs}
 use mir.Syntax.{w64}
@@ -10,7 +10,7 @@ use mir.Facts.{toZ-ofZ}
 use Rattle.soft.specs.declared.kinds.SoftAnswer.{SoftAnswer}
 use Rattle.soft.specs.Answers.{softAnswer}
 use Rattle.lines.specs.Lines.{answerLine, acceptedLine, refusedLine}
-use Rattle.lines.proofs.Lengths.{accepted-short, refused-short}
+use Rattle.lines.proofs.Lengths.{Counted, accepted-short, refused-short}
 use Rattle.answers.specs.Decoding.{messageAndReserve}
 use Rattle.answers.proofs.Decoding.{answer-told}
 use Rattle.answers.proofs.write_answer.Statement.{statement}
@@ -54,11 +54,13 @@ returns c =
     let matched = told .before .before in
     let called = matched .before .before in
     let entered = called .before .before in
+    let follows = entered .args .follows in
     let s = matched .values .given .0 .0 in
     let reserve = sized .size .ensures ∙ ap natAbs (toZ-ofZ (fit told)) in
-    answer-told (entered .args .reading .now) (softAnswer (called .soft .result)) (called .soft .ensures)
-    (ap (acceptedLine (s .message .0)) reserve ∙ ap (λ (r : SoftAnswer). answerLine (messageAndReserve (softAnswer r))) (sym (matched .values .given .1)))
-    (accepted-short (s .message .0) (sized .size .result) (small told) (search needs))
+    answer-told (entered .args .reading .now) (softAnswer (called .soft .result)) follows (called .soft .ensures)
+    (ap (λ (k : ℕ). acceptedLine (s .message .0) k follows) reserve
+    ∙ ap (λ (r : SoftAnswer). answerLine (messageAndReserve (softAnswer r)) follows) (sym (matched .values .given .1)))
+    (accepted-short follows (counted entered) (s .message .0) (sized .size .result) (small told) (search needs))
     (written .write-accepted .ensures)
 
 same-length-2 : tie.Need-same-length-2
@@ -71,10 +73,11 @@ returns-2 c =
     let matched = numbered .before .before in
     let called = matched .before .before in
     let entered = called .before .before in
-    answer-told (entered .args .reading .now) (softAnswer (called .soft .result)) (called .soft .ensures)
-    (ap refusedLine (numbered .refusal-number .ensures)
-    ∙ ap (λ (r : SoftAnswer). answerLine (messageAndReserve (softAnswer r))) (sym (matched .reason .given .1)))
-    (refused-short (numbered .refusal-number .result) (search needs))
+    let follows = entered .args .follows in
+    answer-told (entered .args .reading .now) (softAnswer (called .soft .result)) follows (called .soft .ensures)
+    (ap (λ (n : ℕ). refusedLine n follows) (numbered .refusal-number .ensures)
+    ∙ ap (λ (r : SoftAnswer). answerLine (messageAndReserve (softAnswer r)) follows) (sym (matched .reason .given .1)))
+    (refused-short follows (counted entered) (numbered .refusal-number .result) (search needs))
     (written .write-refused .ensures)
 
 pub write-answer-spec : {M : Type 1} → statement M

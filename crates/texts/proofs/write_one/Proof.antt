@@ -17,14 +17,17 @@ use Rattle.texts.proofs.write_one.Tie as tie
 found : (c : tie.Else1)
     → let spelled = c .before .before in
     let args = spelled .before .before .before .before .args in
-    args .at + (length (args .word .now) + spelled .spell .result + 1) ≤ length (args .out .now)
+    args .at + (length (args .word .now) + (spelled .spell .result + length (args .end .now))) ≤ length (args .out .now)
 found c =
     let spelled = c .before .before in
     let args = spelled .before .before .before .before .args in
-    ltb-false (length (args .out .now)) (args .at + (length (args .word .now) + spelled .spell .result + 1)) (sym (c .before .exceeds .ensures) ∙ c .if1 .left)
+    ltb-false (length (args .out .now)) (args .at + (length (args .word .now) + (spelled .spell .result + length (args .end .now)))) (sym (c .before .exceeds .ensures) ∙ c .if1 .left)
 
 spell-requires : tie.Need-spell-requires
 spell-requires c κs = search needs
+
+add-exceeds : tie.Need-add-exceeds
+add-exceeds c = search needs
 
 exceeds-requires : tie.Need-exceeds-requires
 exceeds-requires c κs = search needs
@@ -33,10 +36,10 @@ returns : tie.Need-returns
 returns c =
     let spelled = c .before .before in
     let args = spelled .before .before .before .before .args in
-    let line = args .at + (length (args .word .now) + spelled .spell .result + 1) in
+    let line = args .at + (length (args .word .now) + (spelled .spell .result + length (args .end .now))) in
     let beyond = ltb-true (length (args .out .now)) line (sym (c .before .exceeds .ensures) ∙ c .if1 .taken) in
-    no-room (lineOf (args .word .now) (args .n)) (args .out .now) (args .at)
-    (omega (arith, beyond, length-one (args .word .now) (args .n), ap length (spelled .spell .ensures .1 .1)))
+    no-room (lineOf (args .word .now) (args .n) (args .end .now)) (args .out .now) (args .at)
+    (omega (arith, beyond, length-one (args .word .now) (args .n) (args .end .now), ap length (spelled .spell .ensures .1 .1)))
 
 array-share-prefix-digits : tie.Need-array-share-prefix-digits
 array-share-prefix-digits c = search needs
@@ -46,9 +49,6 @@ slice-aggregate-copy-both c = search needs
 
 copy-both-requires : tie.Need-copy-both-requires
 copy-both-requires c κs = omega (arith, found (c .before .before))
-
-slice-aggregate-copy : tie.Need-slice-aggregate-copy
-slice-aggregate-copy c = search needs
 
 copy-requires : tie.Need-copy-requires
 copy-requires c κs =
@@ -72,12 +72,12 @@ write-one-spec =
     tie.close
     (tie.spec
     spell-requires
+    add-exceeds
     exceeds-requires
     returns
     array-share-prefix-digits
     slice-aggregate-copy-both
     copy-both-requires
-    slice-aggregate-copy
     copy-requires
     same-length
     returns-2)

@@ -17,7 +17,7 @@ use Rattle.texts.proofs.write_two.Tie as tie
 abbrev end : tie.After-spell2 → ℕ
 end c =
     let args = c .before .before .before .before .before .before .before .args in
-    args .at + (length (args .word .now) + length (args .between .now) + (c .before .before .spell .result + c .spell2 .result) + 1)
+    args .at + (length (args .word .now) + length (args .between .now) + (c .before .before .spell .result + c .spell2 .result + length (args .end .now)))
 
 -- the line has room, by its pieces
 found : (c : tie.Else1)
@@ -25,7 +25,7 @@ found : (c : tie.Else1)
     let first = second .before .before in
     let args = first .before .before .before .before .before .args in
     args .at + length (args .word .now) + length (take (first .spell .result) (first .spell .last .1 .0)) + length (args .between .now)
-    + length (take (second .spell2 .result) (second .spell2 .last .1 .0)) + 1
+    + length (take (second .spell2 .result) (second .spell2 .last .1 .0)) + length (args .end .now)
     ≤ length (args .out .now)
 found c =
     let second = c .before .before in
@@ -44,6 +44,9 @@ add-exceeds c = search needs
 add-exceeds-2 : tie.Need-add-exceeds-2
 add-exceeds-2 c = search needs
 
+add-exceeds-3 : tie.Need-add-exceeds-3
+add-exceeds-3 c = search needs
+
 exceeds-requires : tie.Need-exceeds-requires
 exceeds-requires c κs = search needs
 
@@ -53,11 +56,11 @@ returns c =
     let first = second .before .before in
     let args = first .before .before .before .before .before .args in
     let beyond = ltb-true (length (args .out .now)) (end second) (sym (c .before .exceeds .ensures) ∙ c .if1 .taken) in
-    no-room (lineOfTwo (args .word .now) (args .m) (args .between .now) (args .n)) (args .out .now) (args .at)
+    no-room (lineOfTwo (args .word .now) (args .m) (args .between .now) (args .n) (args .end .now)) (args .out .now) (args .at)
     (omega (
       arith,
       beyond,
-      length-two (args .word .now) (args .m) (args .between .now) (args .n),
+      length-two (args .word .now) (args .m) (args .between .now) (args .n) (args .end .now),
       ap length (first .spell .ensures .1 .1),
       ap length (second .spell2 .ensures .1 .1),
     ))
@@ -81,9 +84,6 @@ copy-both-requires-2 : tie.Need-copy-both-requires-2
 copy-both-requires-2 c κs =
     let put = c .before .before .before .before in
     omega (arith, found (put .before .before .before), simp length-append at (put .copy-both .ensures .place))
-
-slice-aggregate-copy : tie.Need-slice-aggregate-copy
-slice-aggregate-copy c = search needs
 
 copy-requires : tie.Need-copy-requires
 copy-requires c κs =
@@ -122,6 +122,7 @@ write-two-spec =
     spell-requires-2
     add-exceeds
     add-exceeds-2
+    add-exceeds-3
     exceeds-requires
     returns
     array-share-prefix-first
@@ -130,7 +131,6 @@ write-two-spec =
     array-share-prefix-second
     slice-aggregate-copy-both-2
     copy-both-requires-2
-    slice-aggregate-copy
     copy-requires
     same-length
     returns-2)
