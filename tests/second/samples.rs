@@ -15,11 +15,11 @@ const NOISE: i64 = 400_000;
 const SLEW: i64 = 12;
 /// So many old records come before the first new one.
 const CHANGE_OVER: usize = 60;
-/// How a link's numbers go: 65,535 is passed about half of the way.
+/// The new ones' numbers, which pass 65,535 on the way.
 const NUMBERS: Numbers = Numbers {
     latest: 65_425,
     one_in: 6,
-    steps: &[0, 0, 0, 2, 2, 3, 5, 12, 41, -1, -2, -3],
+    steps: &[0, 0, 2, 2, 3, 6, 41, -1, -3],
 };
 
 #[derive(Clone, Copy)]

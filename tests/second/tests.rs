@@ -625,7 +625,7 @@ fn records_have_the_mark_and_the_most_significant_byte_first() {
     assert_eq!(bytes[96..], [0xFF, 0xFF, 0xFF, 0xFE]);
 }
 
-/// Two trials at once must not write and remove one file.
+/// Two trials at once must not write and remove one file. README.md says how many there are.
 #[test]
 fn captures_tried_have_names_of_their_own() {
     let trials = trials(&code(), &mut Chance::from_seed(5));
@@ -671,6 +671,11 @@ fn samples_show_what_they_are_named_for() {
         .last()
         .expect("a line")
         .starts_with("stopped 9 at "));
+    let numbered = lines(Sample::Numbered);
+    let told = |line: &&str| line.split(' ').count() == 3;
+    assert_eq!(numbered.lines().filter(told).count(), 140);
+    assert!(numbered.contains(" repeat\n") && numbered.contains(" late\n"));
+    assert!(numbered.contains("refused 6 0\n") && numbered.contains("refused 2 0\n"));
 }
 
 /// What is printed behind the header.

@@ -20,10 +20,10 @@ header-short = lit≤ tt
 
 -- how a record follows, with a count of 16 bits
 abbrev pub Counted : Follows → Type 0
-Counted Unnumbered = ⊤
+Counted Unnumbered = Unit {0}
 Counted (Lost n) = n < 2 ^ 16
-Counted Repeat = ⊤
-Counted Late = ⊤
+Counted Repeat = Unit {0}
+Counted Late = Unit {0}
 
 pub suffix-short : (follows : Follows) → Counted follows → length (suffix follows) ≤ 7
 suffix-short Unnumbered h = lit≤ tt

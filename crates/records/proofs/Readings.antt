@@ -68,3 +68,19 @@ module _ (bytes : List ℕ) (from : ℕ) (h : from + 4 ≤ length bytes) where
       → d ≡ getD bytes (from + 3) 0
       → a * 0x100_0000 + b * 0x1_0000 + c * 0x100 + d ≡ wordOf (take 4 (drop from bytes))
   four-word p q r s = (λ i. p i * 0x100_0000 + q i * 0x1_0000 + r i * 0x100 + s i) ∙ four-at
+
+-- the word that two bytes from a place on hold
+two-front : (l : List ℕ) → 2 ≤ length l → getD l 0 0 * 0x100 + getD l 1 0 ≡ wordOf (take 2 l)
+two-front [] h = let e : ⊥ = omega arith in absurd e
+two-front (a ∷ []) h = let e : ⊥ = omega arith in absurd e
+two-front (a ∷ b ∷ l) h = omega arith
+
+pub two-word :
+    (bytes : List ℕ) (from : ℕ) {a b : ℕ}
+    → from + 2 ≤ length bytes
+    → a ≡ getD bytes from 0
+    → b ≡ getD bytes (from + 1) 0
+    → a * 0x100 + b ≡ wordOf (take 2 (drop from bytes))
+two-word bytes from h p q =
+    let l : 2 ≤ length (drop from bytes) = simp length-drop (omega arith) in
+    (λ i. p i * 0x100 + q i) ∙ simp (getD-drop, add-zero) at (two-front (drop from bytes) l)

@@ -3,7 +3,7 @@
 use mathlib.Core.Path.{_≡_, refl, sym, ap, _∙_}
 use mathlib.Core.Bool.{Bool, false}
 use mathlib.Core.List.{List, [], _∷_}
-use Prim.Native.Nat.{ℕ, zero, suc, _+_, _≤_, _<_}
+use Prim.Native.Nat.{ℕ, zero, suc, _+_, _-_, _≤_, _<_}
 use native.Mathlib.Omega.{arith}
 use lib.ListN.{length, drop, length-drop}
 use lib.Seq.{drop-drop}
@@ -110,31 +110,37 @@ module _ {A : Type 0} (t : Telling A) (last : Bool) where
         (w .0 ∙ sym (piece-whole last (standsAt bytes at) (w .0)))
 
 -- a run over a piece that more may follow, where it did not stop, leaves less than a record
+left-within :
+    (fuel : ℕ) (previous : Number) (offset : ℕ) (left : List ℕ)
+    → length left ≤ fuel
+    → runIn ending false fuel previous offset left .stopped ≡ false
+    → offset + length left < runIn ending false fuel previous offset left .offset + newLength
+unfolding runIn
+left-within zero previous offset left h e = omega arith
+left-within (suc fuel) previous offset left h e =
+    cases (inPiece false (standing left)) refl e
+    (λ r. left-within fuel (previousAfter previous (r .number)) (offset + recordLength r) (drop (recordLength r) left))
+  where
+    later : Record → Ending
+    later r = runIn ending false fuel (previousAfter previous (r .number)) (offset + recordLength r) (drop (recordLength r) left)
+
+    cases : (s : Standing Record)
+        → inPiece false (standing left) ≡ s
+        → runAt ending false previous offset later s .stopped ≡ false
+        → ((r : Record)
+        → length (drop (recordLength r) left) ≤ fuel
+        → later r .stopped ≡ false
+        → offset + recordLength r + length (drop (recordLength r) left) < later r .offset + newLength)
+        → offset + length left < runAt ending false previous offset later s .offset + newLength
+    cases ended q e tail = omega (arith, ended-short left q)
+    cases (stopped n) q e tail = let z : _≡_ {A = ℕ} 0 1 = cc in absurd (omega arith)
+    cases (whole r) q e tail =
+        let k = whole-long left (piece-whole false (standing left) q) in
+        let long : length (drop (recordLength r) left) ≡ length left - recordLength r = length-drop (recordLength r) left in
+        omega (arith, tail r (omega (arith, k .0, k .1, long)) e, k .0, k .1, long)
+
 pub left-short :
     (previous : Number) (offset : ℕ) (left : List ℕ)
     → runFrom ending false previous offset left .stopped ≡ false
     → offset + length left < runFrom ending false previous offset left .offset + newLength
-left-short previous offset left = within (length left) previous offset left (omega arith)
-  where
-    within :
-        (fuel : ℕ) (previous : Number) (offset : ℕ) (left : List ℕ)
-        → length left ≤ fuel
-        → runIn ending false fuel previous offset left .stopped ≡ false
-        → offset + length left < runIn ending false fuel previous offset left .offset + newLength
-    unfolding runIn
-    within zero previous offset left h e = omega arith
-    within (suc fuel) previous offset left h e = cases (inPiece false (standing left)) refl e
-      where
-        cases : (s : Standing Record)
-            → inPiece false (standing left) ≡ s
-            → runAt ending false previous offset
-            (λ r. runIn ending false fuel (previousAfter previous (r .number)) (offset + recordLength r) (drop (recordLength r) left)) s .stopped ≡ false
-            → offset + length left < runAt ending false previous offset
-            (λ r. runIn ending false fuel (previousAfter previous (r .number)) (offset + recordLength r) (drop (recordLength r) left)) s .offset + newLength
-        cases ended q e = omega (arith, ended-short left q)
-        cases (stopped n) q e = let z : _≡_ {A = ℕ} 0 1 = cc in absurd (omega arith)
-        cases (whole r) q e =
-            let k = whole-long left (piece-whole false (standing left) q) in
-            let long : length (drop (recordLength r) left) ≡ length left - recordLength r = length-drop (recordLength r) left in
-            let tail = within fuel (previousAfter previous (r .number)) (offset + recordLength r) (drop (recordLength r) left) (omega (arith, k .0, k .1, long)) e in
-            omega (arith, tail, k .0, k .1, long)
+left-short previous offset left = left-within (length left) previous offset left (omega arith)

@@ -3,7 +3,7 @@
 use mathlib.Core.Path.{_≡_, refl, sym, ap, _∙_}
 use mathlib.Core.Bool.{Bool, true, false, cond}
 use mathlib.Core.List.{List, [], _∷_, _++_}
-use Prim.Native.Nat.{ℕ, _+_, _-_, _≤_, _<_}
+use Prim.Native.Nat.{ℕ, _+_, _-_, _*_, _≤_, _<_}
 use native.Mathlib.Nat.{add-zero}
 use native.Mathlib.Omega.{arith}
 use lib.Dec.{leb, eqb, lit<}
@@ -229,6 +229,14 @@ module _ (at : ℕ) where
   next-whole ended e = never (cc)
   next-whole (stopped n) e = never (cc)
   next-whole (whole r) e = (refl, cc)
+
+-- in the last piece all is told as it stands
+module _ (bytes : List ℕ) (at : ℕ) where
+  pub last-ended : nextFrom at (inPiece true (standsAt bytes at)) ≡ ended → standsAt bytes at ≡ ended
+  last-ended e = sym (in-last (standsAt bytes at)) ∙ next-ended at (inPiece true (standsAt bytes at)) e
+
+  pub last-stopped : {n : ℕ} → nextFrom at (inPiece true (standsAt bytes at)) ≡ stopped n → standsAt bytes at ≡ stopped n
+  last-stopped e = sym (in-last (standsAt bytes at)) ∙ next-stopped at (inPiece true (standsAt bytes at)) e
 
 -- a whole record that is told: of either kind, with the bytes that it takes
 pub data Told (bytes : List ℕ) (at next : ℕ) : Type 0 where

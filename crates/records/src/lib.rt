@@ -1,12 +1,13 @@
 // A capture as bytes: what stands at a place of it, and the number and the confidences of a record. Each call answers for every slice and every
 // place.
 ghost use mathlib.Core.Path.{_≡_};
+ghost use mathlib.Core.Bool.{cond};
 ghost use Prim.Native.Nat.{_+_, _≤_, _<_};
 ghost use lib.ListN.{length, take, drop};
 ghost use Rattle.code.specs.Code.{positions};
 ghost use Rattle.golay.specs.Bytes.{wordOf};
 ghost use Rattle.sequence.specs.declared.kinds.Number.the-variants.{Some};
-ghost use Rattle.records.specs.Records.{twosComplement, confidenceOf, confidencesOf, unfinished, inPiece, standsAt, nextFrom, numberOf, readingOf, standsAnswer};
+ghost use Rattle.records.specs.Records.{twosComplement, confidenceOf, confidencesOf, ended, unfinished, standsAt, inPiece, nextFrom, numberOf, readingOf, standsAnswer};
 
 pub mod kinds;
 
@@ -24,7 +25,7 @@ const READING: usize = 96;
 
 // A record that is not whole: cut short where the input has ended, else none yet.
 fn cut(last: bool) -> Stands
-    ensures { λ r. ⌜ standsAnswer r ≡ nextFrom 0 (inPiece last unfinished) ⌝ }
+    ensures { λ r. ⌜ standsAnswer r ≡ cond last unfinished ended ⌝ }
 {
     if last {
         Stands::Stopped(Refusal::CutShort)
@@ -116,9 +117,9 @@ fn number_from(bytes: &[u8], from: usize) -> Number
     requires { ⌜ from + 2 ≤ length (now bytes) ⌝ }
     ensures { λ r. ⌜ r ≡ Some (wordOf (take 2 (drop from (now (bytes .entry))))) ⌝ }
 {
-    let a = bytes[from] as u16;
-    let b = bytes[from + 1] as u16;
-    Number::Some(a * 0x100 + b)
+    let a = wide(bytes[from]);
+    let b = wide(bytes[from + 1]);
+    Number::Some((a * 0x100 + b) as u16)
 }
 
 // The number of the record at a place; none where it is an old one, or no whole record stands there.

@@ -2,19 +2,12 @@
 // buffer changes, and the answer is the place itself.
 ghost use mathlib.Core.Path.{_≡_};
 ghost use mathlib.Core.List.{_++_};
-ghost use Prim.Native.Nat.{_+_, _-_, _≤_};
+ghost use Prim.Native.Nat.{_+_, _≤_};
 ghost use lib.Dec.{ltb};
 ghost use lib.ListN.{length, take};
 ghost use Rattle.io.specs.Counts.{Counts};
 ghost use Rattle.texts.specs.Texts.{decimal, lineOf, lineOfTwo};
 ghost use Rattle.texts.specs.Buffers.{Puts, Writes};
-
-// How many bytes a buffer of a length has from a place on.
-fn room(length: usize, at: usize) -> usize
-    ensures { λ r. ⌜ r ≡ length - at ⌝ }
-{
-    if length < at { 0 } else { length - at }
-}
 
 // Copies a text that fits, and answers the place after it.
 fn copy(text: &[u8], out: &mut [u8], at: usize) -> usize
@@ -52,7 +45,10 @@ fn spell(n: u64, digits: &mut [u8; 20]) -> usize
 fn exceeds(words: usize, more: usize, length: usize, at: usize) -> bool
     ensures { λ r. ⌜ r ≡ ltb length (at + (words + more)) ⌝ }
 {
-    let left = room(length, at);
+    if length < at {
+        return true;
+    }
+    let left = length - at;
     if left < words {
         return true;
     }

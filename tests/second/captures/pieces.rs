@@ -3,12 +3,12 @@
 
 use super::child::{Input, Pieces};
 use super::records::{records, records_of_numbers, UNEVEN};
-use super::trials::{trial, Trial, WHOLE};
+use super::trials::{trial, with_byte, Trial, WHOLE};
 use crate::capture::{starts, HEAD, NEW_MARK, NEW_RECORD, OLD_RECORD};
 use crate::chance::Chance;
 use crate::code::Code;
 
-/// The program reads 64 KiB at a time; these many old records are whole in it.
+/// The program reads 64 KiB at a time; these many old records are whole in them.
 const PIECE: usize = 65_536;
 const RECORDS_IN_A_PIECE: usize = PIECE / OLD_RECORD;
 
@@ -61,9 +61,9 @@ fn ends_of_pieces(bytes: &[u8]) -> Vec<usize> {
     ends
 }
 
-/// Records of both kinds, one of which starts an even number of bytes before the first piece's end: a
-/// new one with the given number, or an old one. All records are of even length, so an odd number
-/// comes up in a pipe alone.
+/// Records of both kinds, one of which starts so many bytes before the first piece's end: a new one
+/// with the given number, or an old one. The bytes must be even in number: records are of even
+/// length, so a piece of 64 KiB ends at no odd place.
 fn begun_before(code: &Code, chance: &mut Chance, before: usize, number: Option<u16>) -> Vec<u8> {
     let length = PIECE - before;
     let many = length / ((OLD_RECORD + NEW_RECORD) / 2);
@@ -102,8 +102,7 @@ fn marks_near_a_piece(code: &Code, chance: &mut Chance) -> Vec<Trial> {
         let cut = starts.partition_point(|&start| start <= PIECE);
         for start in &starts[cut - 2..cut + 2] {
             for place in [*start, start + 1] {
-                let mut bytes = bytes.clone();
-                bytes[place] ^= 1;
+                let bytes = with_byte(&bytes, place, bytes[place] ^ 1);
                 let name = format!("mark-{name}-{place}");
                 trials.push(trial(name, &bytes, Input::Argument));
             }
@@ -112,8 +111,9 @@ fn marks_near_a_piece(code: &Code, chance: &mut Chance) -> Vec<Trial> {
     trials
 }
 
-/// Short captures and some longer than a piece, the pipe's first piece ending at every place of a
-/// record; of a new, an old and a second new one where both kinds occur in a short one.
+/// Short captures and some longer than a piece, the pipe's first piece ending at every place of the
+/// first record; in the short one of both kinds also of the two records after it, where there is a
+/// previous number to keep.
 fn in_two_pieces(code: &Code, chance: &mut Chance) -> Vec<Trial> {
     let old = records(code, chance, RECORDS_IN_A_PIECE + 3, 0);
     let uneven = records_of_numbers(code, chance, &UNEVEN);
@@ -135,8 +135,8 @@ fn in_two_pieces(code: &Code, chance: &mut Chance) -> Vec<Trial> {
     trials
 }
 
-/// Captures that end, are cut short or have a wrong mark at one place, a piece ending there, within
-/// the mark, behind it, within the number or behind that.
+/// Captures whose last record isn't there, is cut short or has a wrong mark. A piece ends where it
+/// starts, within its mark, behind the mark, within the number or behind that.
 fn in_small_pieces(code: &Code, chance: &mut Chance) -> Vec<Trial> {
     let uneven = records_of_numbers(code, chance, &UNEVEN);
     let (old, new) = (records(code, chance, 1, 0), records(code, chance, 0, 1));

@@ -11,8 +11,9 @@ use crate::readings::{overflowing, KINDS, MOST};
 /// Steps that tell a repeat, losses or a late record (12.6), most of them beside another outcome's.
 const STEPS: [i64; 12] = [0, 0, 2, 2, 3, 300, 32_767, 32_768, 32_769, 50_000, -2, -1];
 
-/// Where a previous number is forgotten, each new record after the first tells something else: one
-/// lost, a repeat, one lost, late, five lost. Old ones stand between.
+/// Each new record after the first tells something that a first one doesn't, so that a previous
+/// number shows that gets lost: one lost, a repeat, one lost, late, five lost. Two old ones stand
+/// between.
 pub const UNEVEN: [Option<u16>; 8] = [
     Some(65_533),
     None,
@@ -27,22 +28,25 @@ pub const UNEVEN: [Option<u16>; 8] = [
 /// So many old and so many new records, in random order.
 pub fn records(code: &Code, chance: &mut Chance, old: usize, new: usize) -> Vec<u8> {
     let any = any_number(chance);
-    let mut numbers = Numbers {
+    let mut link = Numbers {
         latest: chance.pick(&[65_532, 65_535, any]),
         one_in: 3,
         steps: &STEPS,
     };
     let order = chance.order(old + new);
-    let number = |place| (place < new).then(|| numbers.next(chance));
+    let number = |place| (place < new).then(|| link.next(chance));
     let numbers: Vec<Option<u16>> = order.into_iter().map(number).collect();
     records_of_numbers(code, chance, &numbers)
 }
 
 /// A new record for each number, an old one where there is none.
 pub fn records_of_numbers(code: &Code, chance: &mut Chance, numbers: &[Option<u16>]) -> Vec<u8> {
-    let record = |&number| match (number, reading(code, chance)) {
-        (Some(number), reading) => new_record(number, &reading),
-        (None, reading) => old_record(&reading),
+    let record = |&number: &Option<u16>| {
+        let reading = reading(code, chance);
+        match number {
+            Some(number) => new_record(number, &reading),
+            None => old_record(&reading),
+        }
     };
     numbers.iter().flat_map(record).collect()
 }

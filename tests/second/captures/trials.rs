@@ -30,8 +30,7 @@ const RANDOM: usize = 60;
 /// What a changed byte becomes at a mark: bytes of the marks, their neighbours and the ends.
 const MARK_BYTES: [u8; 8] = [0x00, 0x0A, 0x42, 0x43, 0x44, 0x45, 0x49, 0xFF];
 
-/// Previous numbers at and beside the ends of what is counted with one byte, with two, and with a
-/// sign.
+/// Previous numbers: the ends of 8 and of 16 bits, with a sign and without, and their neighbours.
 const PREVIOUS: [u16; 12] = [
     0, 1, 2, 255, 256, 32_766, 32_767, 32_768, 32_769, 65_533, 65_534, 65_535,
 ];
@@ -71,8 +70,8 @@ fn long(code: &Code, chance: &mut Chance) -> Trial {
     trial("long".to_string(), &bytes, Input::Argument)
 }
 
-/// The longest lines that there are, which is 24 bytes each where all are repeats, and those with the
-/// largest losses; together they fill twice what the program writes at a time.
+/// The longest lines that there are, of 24 bytes, and the longest with a loss: more than two pieces
+/// of 64 KiB are to be written.
 fn longest_lines(code: &Code) -> Vec<Trial> {
     let last = code.codewords[MESSAGES as usize - 1];
     let reading = speaking_for(last, &[MOST; POSITIONS]);
@@ -140,7 +139,7 @@ fn short() -> Vec<Trial> {
     trials
 }
 
-/// Five old records; and new ones with old ones among them.
+/// Old records alone, and records of both kinds.
 fn old_and_uneven(code: &Code, chance: &mut Chance) -> [(&'static str, Vec<u8>); 2] {
     [
         ("old", records(code, chance, 5, 0)),
@@ -152,12 +151,9 @@ fn cut(code: &Code, chance: &mut Chance) -> Vec<Trial> {
     let mut trials = Vec::new();
     for (kind, bytes) in old_and_uneven(code, chance) {
         for length in 0..=LONGEST_CUT {
+            let name = format!("cut-{kind}-{length}");
             let input = WHOLE[length % WHOLE.len()];
-            trials.push(trial(
-                format!("cut-{kind}-{length}"),
-                &bytes[..length],
-                input,
-            ));
+            trials.push(trial(name, &bytes[..length], input));
         }
     }
     trials
@@ -169,25 +165,27 @@ fn changed(code: &Code, chance: &mut Chance) -> Vec<Trial> {
         let bytes = &bytes[..CHANGED_BYTES];
         let starts = starts(bytes);
         for place in 0..CHANGED_BYTES {
+            let in_mark = |&start: &usize| place == start || place == start + 1;
             let other = bytes[place] ^ chance.between(1, 255) as u8;
-            let is_in_mark = starts
-                .iter()
-                .any(|&start| [start, start + 1].contains(&place));
-            let tried = if is_in_mark {
+            let tried = if starts.iter().any(in_mark) {
                 MARK_BYTES.to_vec()
             } else {
                 vec![other]
             };
             for byte in tried {
-                let mut bytes = bytes.to_vec();
-                bytes[place] = byte;
-                let input = WHOLE[place % WHOLE.len()];
                 let name = format!("changed-{kind}-{place}-{byte}");
-                trials.push(trial(name, &bytes, input));
+                let input = WHOLE[place % WHOLE.len()];
+                trials.push(trial(name, &with_byte(bytes, place, byte), input));
             }
         }
     }
     trials
+}
+
+pub fn with_byte(bytes: &[u8], place: usize, byte: u8) -> Vec<u8> {
+    let mut changed = bytes.to_vec();
+    changed[place] = byte;
+    changed
 }
 
 /// Random bytes, bare and behind either mark, random old records, and random records of both kinds.

@@ -1,69 +1,66 @@
--- `records::confidences` meets its contract: where `step` tells a whole record its bytes are there, and elsewhere zeros are asked for.
+-- `records::confidences` meets its contract: where a whole record is told its bytes are there, and elsewhere zeros are asked for.
 -- Assumes nothing.
 use mathlib.Core.Path.{sym, ap, _∙_}
-use Prim.Native.Nat.{_+_, _≤_}
+use mathlib.Core.Bool.{true}
 use native.Mathlib.Omega.{arith}
 use borrow.Author.Needs.{needs}
-use lib.ListN.{length}
-use Rattle.records.specs.Records.{recordLength, readingOf, standsAt, stepAnswer}
-use Rattle.records.proofs.Standing.{whole-room, whole-reading, next-ended, next-stopped}
+use Rattle.records.specs.Records.{readingOf, standsAnswer}
+use Rattle.records.proofs.Standing.{Told, whole-told, told-room, told-reading, last-ended, last-stopped}
 use Rattle.records.proofs.confidences.Statement.{statement}
 use Rattle.records.proofs.confidences.Tie as tie
 
--- a record that `step` told has its bytes
-room : (c : tie.After-enum-told) → c .before .before .before .before .args .at + recordLength ≤ length (c .before .before .before .before .args .bytes .now)
-room c =
+-- the record that is told
+told : (c : tie.After-next)
+    → let args = c .before .before .before .before .args in
+    Told (args .bytes .now) (args .at) (c .next .given .0 .0)
+told c =
     let called = c .before .before in
     let args = called .before .before .args in
-    whole-room (args .bytes .now) (args .at) (sym (called .step .ensures) ∙ ap stepAnswer (c .enum-told .given .1))
+    whole-told true (args .bytes .now) (args .at) (sym (called .stands-at .ensures) ∙ ap standsAnswer (c .next .given .1))
 
-step-requires : tie.Need-step-requires
-step-requires c κs = search needs
+stands-at-requires : tie.Need-stands-at-requires
+stands-at-requires c κs = search needs
+
+enum-known-next : tie.Need-enum-known-next
+enum-known-next c = search needs
+
+sub-reading : tie.Need-sub-reading
+sub-reading c = omega (arith, told-room (told (c .before)) .0)
+
+reading-requires : tie.Need-reading-requires
+reading-requires c κs = let room = told-room (told (c .before)) in omega (arith, room .0, room .1)
 
 enum-told : tie.Need-enum-told
 enum-told c = search needs
 
-add-reading : tie.Need-add-reading
-add-reading c = omega (arith, room c)
-
-reading-requires : tie.Need-reading-requires
-reading-requires c κs = omega (arith, room c)
-
 enum-told-2 : tie.Need-enum-told-2
 enum-told-2 c = search needs
 
-enum-told-3 : tie.Need-enum-told-3
-enum-told-3 c = search needs
-
 returns : tie.Need-returns
-returns c =
-    let matched = c .before in
-    let called = matched .before .before in
-    let args = called .before .before .args in
-    c .reading .ensures ∙ sym (whole-reading (args .bytes .now) (args .at) (sym (called .step .ensures) ∙ ap stepAnswer (matched .enum-told .given .1)))
+returns c = c .reading .ensures ∙ sym (told-reading (told (c .before .before)))
 
 returns-2 : tie.Need-returns-2
 returns-2 c =
     let called = c .before .before in
     let args = called .before .before .args in
-    sym (ap readingOf (next-ended (args .at) (standsAt (args .bytes .now) (args .at)) (sym (called .step .ensures) ∙ ap stepAnswer (c .enum-told2 .given .1))))
+    sym (ap readingOf (last-ended (args .bytes .now) (args .at) (sym (called .stands-at .ensures) ∙ ap standsAnswer (c .enum-told .given .1))))
 
 returns-3 : tie.Need-returns-3
 returns-3 c =
     let called = c .before .before in
     let args = called .before .before .args in
-    sym (ap readingOf (next-stopped (args .at) (standsAt (args .bytes .now) (args .at)) (sym (called .step .ensures) ∙ ap stepAnswer (c .enum-told3 .given .1))))
+    sym (ap readingOf (last-stopped (args .bytes .now) (args .at) (sym (called .stands-at .ensures) ∙ ap standsAnswer (c .enum-told2 .given .1))))
 
 pub confidences-spec : {M : Type 1} → statement M
 confidences-spec =
     tie.close
     (tie.spec
-    step-requires
-    enum-told
-    add-reading
+    stands-at-requires
+    enum-known-next
+    sub-reading
     reading-requires
+    enum-told
     enum-told-2
-    enum-told-3
     returns
     returns-2
     returns-3)

@@ -16,11 +16,11 @@ use Rattle.texts.proofs.write_one.Tie as tie
 -- the line has room
 found : (c : tie.Else1)
     → let spelled = c .before .before in
-    let args = spelled .before .before .before .before .args in
+    let args = spelled .before .before .before .before .before .args in
     args .at + (length (args .word .now) + (spelled .spell .result + length (args .end .now))) ≤ length (args .out .now)
 found c =
     let spelled = c .before .before in
-    let args = spelled .before .before .before .before .args in
+    let args = spelled .before .before .before .before .before .args in
     ltb-false (length (args .out .now)) (args .at + (length (args .word .now) + (spelled .spell .result + length (args .end .now)))) (sym (c .before .exceeds .ensures) ∙ c .if1 .left)
 
 spell-requires : tie.Need-spell-requires
@@ -35,7 +35,7 @@ exceeds-requires c κs = search needs
 returns : tie.Need-returns
 returns c =
     let spelled = c .before .before in
-    let args = spelled .before .before .before .before .args in
+    let args = spelled .before .before .before .before .before .args in
     let line = args .at + (length (args .word .now) + (spelled .spell .result + length (args .end .now))) in
     let beyond = ltb-true (length (args .out .now)) line (sym (c .before .exceeds .ensures) ∙ c .if1 .taken) in
     no-room (lineOf (args .word .now) (args .n) (args .end .now)) (args .out .now) (args .at)
@@ -52,7 +52,7 @@ copy-both-requires c κs = omega (arith, found (c .before .before))
 
 copy-requires : tie.Need-copy-requires
 copy-requires c κs =
-    let put = c .before .before .before .before in
+    let put = c .before .before .before in
     omega (arith, found (put .before .before .before), simp length-append at (put .copy-both .ensures .place))
 
 same-length : tie.Need-same-length
@@ -61,9 +61,9 @@ same-length c = search needs
 returns-2 : tie.Need-returns-2
 returns-2 c =
     let fed = c .before .before in
-    let put = fed .before .before .before .before .before in
+    let put = fed .before .before .before .before in
     let spelled = put .before .before .before .before .before in
-    let args = spelled .before .before .before .before .args in
+    let args = spelled .before .before .before .before .before .args in
     let numbered = puts-text (ap (λ (digits : List ℕ). args .word .now ++ digits) (spelled .spell .ensures .1 .1)) (put .copy-both .ensures) in
     puts-writes (puts-then numbered (fed .copy .ensures))
 

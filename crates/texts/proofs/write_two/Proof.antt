@@ -16,20 +16,20 @@ use Rattle.texts.proofs.write_two.Tie as tie
 -- how far the line goes
 abbrev end : tie.After-spell2 → ℕ
 end c =
-    let args = c .before .before .before .before .before .before .before .args in
+    let args = c .before .before .before .before .before .before .before .before .args in
     args .at + (length (args .word .now) + length (args .between .now) + (c .before .before .spell .result + c .spell2 .result + length (args .end .now)))
 
 -- the line has room, by its pieces
 found : (c : tie.Else1)
     → let second = c .before .before in
     let first = second .before .before in
-    let args = first .before .before .before .before .before .args in
+    let args = first .before .before .before .before .before .before .args in
     args .at + length (args .word .now) + length (take (first .spell .result) (first .spell .last .1 .0)) + length (args .between .now)
     + length (take (second .spell2 .result) (second .spell2 .last .1 .0)) + length (args .end .now)
     ≤ length (args .out .now)
 found c =
     let second = c .before .before in
-    let args = second .before .before .before .before .before .before .before .args in
+    let args = second .before .before .before .before .before .before .before .before .args in
     omega (arith, ltb-false (length (args .out .now)) (end second) (sym (c .before .exceeds .ensures) ∙ c .if1 .left))
 
 spell-requires : tie.Need-spell-requires
@@ -54,7 +54,7 @@ returns : tie.Need-returns
 returns c =
     let second = c .before .before in
     let first = second .before .before in
-    let args = first .before .before .before .before .before .args in
+    let args = first .before .before .before .before .before .before .args in
     let beyond = ltb-true (length (args .out .now)) (end second) (sym (c .before .exceeds .ensures) ∙ c .if1 .taken) in
     no-room (lineOfTwo (args .word .now) (args .m) (args .between .now) (args .n) (args .end .now)) (args .out .now) (args .at)
     (omega (
@@ -87,7 +87,7 @@ copy-both-requires-2 c κs =
 
 copy-requires : tie.Need-copy-requires
 copy-requires c κs =
-    let both = c .before .before .before .before in
+    let both = c .before .before .before in
     let put = both .before .before .before .before .before in
     omega (
       arith,
@@ -104,11 +104,11 @@ same-length c = search needs
 returns-2 : tie.Need-returns-2
 returns-2 c =
     let fed = c .before .before in
-    let both = fed .before .before .before .before .before in
+    let both = fed .before .before .before .before in
     let put = both .before .before .before .before .before in
     let second = put .before .before .before .before .before in
     let first = second .before .before in
-    let args = first .before .before .before .before .before .args in
+    let args = first .before .before .before .before .before .before .args in
     let m = puts-text (ap (λ (digits : List ℕ). args .word .now ++ digits) (first .spell .ensures .1 .1)) (put .copy-both .ensures) in
     let n = puts-text (ap (λ (digits : List ℕ). args .between .now ++ digits) (second .spell2 .ensures .1 .1)) (both .copy-both2 .ensures) in
     let line = sym (append-assoc (args .word .now ++ decimal (args .m)) (args .between .now) (decimal (args .n))) in
