@@ -6,7 +6,7 @@ ghost use Prim.Native.Nat.{_≤_};
 ghost use lib.ListN.{length, take};
 ghost use Rattle.texts.specs.Buffers.{Writes};
 ghost use Rattle.texts.specs.Texts.{lineFeed};
-ghost use Rattle.lines.specs.Lines.{header, suffix, acceptedLine, refusedLine, stoppedLine};
+ghost use Rattle.lines.specs.Lines.{header, suffix, acceptedLine, refusedLine, stoppedLine, longest};
 use sequence::kinds::Follows;
 use texts::write_one;
 use texts::write_text;
@@ -39,6 +39,7 @@ fn spell_end(follows: Follows, end: &mut [u8]) -> usize
 // As in "0 8" (rule 13.3).
 pub fn write_accepted(message: u32, reserve: u64, follows: Follows, out: &mut [u8], at: usize) -> usize
     ensures { λ r. ⌜ Writes (acceptedLine message reserve follows) (now (out .entry)) at (now (out .exit)) r ⌝ }
+    ensures { λ _. ⌜ length (acceptedLine message reserve follows) ≤ longest ⌝ }
 {
     let mut end = [0u8; 8];
     let k = spell_end(follows, &mut end);
@@ -48,6 +49,7 @@ pub fn write_accepted(message: u32, reserve: u64, follows: Follows, out: &mut [u
 // As in "refused 6" (rule 13.4).
 pub fn write_refused(number: u8, follows: Follows, out: &mut [u8], at: usize) -> usize
     ensures { λ r. ⌜ Writes (refusedLine number follows) (now (out .entry)) at (now (out .exit)) r ⌝ }
+    ensures { λ _. ⌜ length (refusedLine number follows) ≤ longest ⌝ }
 {
     let mut end = [0u8; 8];
     let k = spell_end(follows, &mut end);

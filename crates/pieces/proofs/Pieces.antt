@@ -17,7 +17,7 @@ use Rattle.texts.specs.Buffers.{put}
 use Rattle.texts.proofs.Buffers.{take-put}
 use Rattle.records.specs.Records.{Record, recordLength, Standing, ended, stopped, whole, standing, inPiece}
 use Rattle.records.specs.Capture.{Telling, runFrom}
-use Rattle.records.proofs.Standing.{whole-long, piece-whole, piece-front}
+use Rattle.records.proofs.Standing.{whole-long, piece-whole, stopped-front, whole-front}
 use Rattle.records.proofs.Running.{run-ended, run-stopped, run-whole}
 use Rattle.pieces.specs.Pieces.{Within, Keeps, allPieces, goingOn, turnsFrom}
 
@@ -92,22 +92,14 @@ module _ {A : Type 0} (t : Telling A) where
         cases ended q =
             ap (λ (l : List ℕ). runFrom t true previous offset (l ++ rest)) (sym e) ∙ sym (run-ended u false previous offset front q)
         cases (stopped n) q =
-            let both = piece-front front rest (λ z. omega (arith, never-ended (sym q ∙ z))) ∙ q in
-            run-stopped t true previous offset (front ++ rest) both ∙ sym (run-stopped u false previous offset front q)
-          where
-            never-ended : stopped n ≡ ended → _≡_ {A = ℕ} 0 1
-            never-ended z = cc
+            run-stopped t true previous offset (front ++ rest) (stopped-front front rest q) ∙ sym (run-stopped u false previous offset front q)
         cases (whole r) q =
             let w = piece-whole false (standing front) q in
-            let both = piece-front front rest (λ z. omega (arith, never-ended (sym q ∙ z))) ∙ q in
-            run-whole t true previous offset (front ++ rest) both
+            run-whole t true previous offset (front ++ rest) (whole-front front rest q)
             ∙ ap (λ (l : List ℕ). t .atRecord previous r (runFrom t true (previousAfter previous (r .number)) (offset + recordLength r) l))
             (drop-append-le (recordLength r) front rest (whole-long front w .1))
             ∙ ap (t .atRecord previous r) (tail r w)
             ∙ sym (run-whole u false previous offset front q)
-          where
-            never-ended : whole r ≡ ended → _≡_ {A = ℕ} 0 1
-            never-ended z = cc
 
     goes :
         (fuel : ℕ) (previous : Number) (offset : ℕ) (front : List ℕ)

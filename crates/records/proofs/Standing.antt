@@ -173,7 +173,7 @@ ended-short (a ∷ b ∷ rest) e =
     cases false f false g p q e = never (cc)
 
 -- elsewhere bytes that follow change nothing
-pub piece-front :
+piece-front :
     (front rest : List ℕ)
     → (inPiece false (standing front) ≡ ended → ⊥)
     → inPiece true (standing (front ++ rest)) ≡ inPiece false (standing front)
@@ -208,6 +208,20 @@ piece-front (a ∷ b ∷ front) rest h =
         )
     cases false f true false p q h = absurd (h refl)
     cases false f false g p q h = refl
+
+pub stopped-front :
+    (front rest : List ℕ) {n : ℕ} → inPiece false (standing front) ≡ stopped n → inPiece true (standing (front ++ rest)) ≡ stopped n
+stopped-front front rest {n} e = piece-front front rest (λ z. never (other (sym e ∙ z))) ∙ e
+  where
+    other : _≡_ {A = Standing Record} (stopped n) ended → _≡_ {A = ℕ} 0 1
+    other z = cc
+
+pub whole-front :
+    (front rest : List ℕ) {r : Record} → inPiece false (standing front) ≡ whole r → inPiece true (standing (front ++ rest)) ≡ whole r
+whole-front front rest {r} e = piece-front front rest (λ z. never (other (sym e ∙ z))) ∙ e
+  where
+    other : _≡_ {A = Standing Record} (whole r) ended → _≡_ {A = ℕ} 0 1
+    other z = cc
 
 -- ---- what stands, from what is told of it
 

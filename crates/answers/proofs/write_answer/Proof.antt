@@ -1,7 +1,7 @@
 -- `answers::write_answer` meets its contract: the soft decoder's answer is the one that any decoder tells, and its line is short.
 -- Assumes nothing.
 use mathlib.Core.Path.{ap, sym, _∙_}
-use Prim.Native.Nat.{ℕ, _<_, _^_}
+use Prim.Native.Nat.{ℕ}
 use borrow.Author.Needs.{needs}
 use lib.IntN.{natAbs}
 use mir.Syntax.{w64}
@@ -10,14 +10,10 @@ use mir.Facts.{toZ-ofZ}
 use Rattle.soft.specs.declared.kinds.SoftAnswer.{SoftAnswer}
 use Rattle.soft.specs.Answers.{softAnswer}
 use Rattle.lines.specs.Lines.{answerLine, acceptedLine, refusedLine}
-use Rattle.lines.proofs.Lengths.{Counted, accepted-short, refused-short}
 use Rattle.answers.specs.Decoding.{messageAndReserve}
 use Rattle.answers.proofs.Decoding.{answer-told}
 use Rattle.answers.proofs.write_answer.Statement.{statement}
 use Rattle.answers.proofs.write_answer.Tie as tie
-
-small : (c : tie.After-struct-told) → c .before .before .values .given .0 .0 .message .0 < 2 ^ 32
-small c = search needs
 
 fit : (c : tie.After-struct-told) → SFits w64 (c .before .before .values .given .0 .0 .reserve)
 fit c = search needs
@@ -60,8 +56,8 @@ returns c =
     answer-told (entered .args .reading .now) (softAnswer (called .soft .result)) follows (called .soft .ensures)
     (ap (λ (k : ℕ). acceptedLine (s .message .0) k follows) reserve
     ∙ ap (λ (r : SoftAnswer). answerLine (messageAndReserve (softAnswer r)) follows) (sym (matched .values .given .1)))
-    (accepted-short follows (counted entered) (s .message .0) (sized .size .result) (small told) (search needs))
-    (written .write-accepted .ensures)
+    (written .write-accepted .ensures .1)
+    (written .write-accepted .ensures .0)
 
 same-length-2 : tie.Need-same-length-2
 same-length-2 c = search needs
@@ -77,8 +73,8 @@ returns-2 c =
     answer-told (entered .args .reading .now) (softAnswer (called .soft .result)) follows (called .soft .ensures)
     (ap (λ (n : ℕ). refusedLine n follows) (numbered .refusal-number .ensures)
     ∙ ap (λ (r : SoftAnswer). answerLine (messageAndReserve (softAnswer r)) follows) (sym (matched .reason .given .1)))
-    (refused-short follows (counted entered) (numbered .refusal-number .result) (search needs))
-    (written .write-refused .ensures)
+    (written .write-refused .ensures .1)
+    (written .write-refused .ensures .0)
 
 pub write-answer-spec : {M : Type 1} → statement M
 write-answer-spec =

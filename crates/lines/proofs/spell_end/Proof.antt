@@ -8,12 +8,11 @@ use borrow.Author.Needs.{needs}
 use lib.Dec.{lit≤}
 use lib.ListN.{length, take, length-append}
 use Rattle.sequence.specs.declared.kinds.Follows.{Follows}
-use Rattle.sequence.specs.declared.kinds.Follows.the-variants.{Lost}
 use Rattle.texts.specs.Texts.{lineFeed}
 use Rattle.texts.specs.Buffers.{Writes}
 use Rattle.texts.proofs.Buffers.{writes-puts, puts-front}
 use Rattle.lines.specs.Lines.{suffix}
-use Rattle.lines.proofs.Lengths.{suffix-short}
+use Rattle.lines.proofs.Lengths.{lost-short}
 use Rattle.lines.proofs.spell_end.Statement.{statement}
 use Rattle.lines.proofs.spell_end.Tie as tie
 
@@ -93,7 +92,7 @@ returns-2 c =
     let entered = matched .before .before .before in
     let n = matched .follows .given .0 .0 in
     spelled (entered .args .follows) (entered .pre) (sym (ap (λ (f : Follows). suffix f ++ lineFeed) (matched .follows .given .1)))
-    (simp length-append (omega (arith, suffix-short (Lost n) (small known))))
+    (simp length-append (omega (arith, lost-short n (small known))))
     (written .write-one .ensures)
 
 same-length-3 : tie.Need-same-length-3

@@ -3,6 +3,7 @@
 use mathlib.Core.Path.{sym}
 use borrow.Author.Needs.{needs}
 use lib.Seq.{length-take-le}
+use Rattle.lines.proofs.Lengths.{accepted-short}
 use Rattle.lines.proofs.write_accepted.Statement.{statement}
 use Rattle.lines.proofs.write_accepted.Tie as tie
 
@@ -36,7 +37,12 @@ returns : tie.Need-returns
 returns c =
     let written = c .before .before in
     let spelled = written .before .before .before .before .before .before in
-    rw (spelled .spell-end .ensures .1) at (written .write-two .ensures)
+    let entered = spelled .before .before .before in
+    let e = spelled .spell-end .ensures .1 in
+    (
+      rw e at (written .write-two .ensures),
+      accepted-short (entered .args .follows) (spelled .spell-end .last .1 .0) (spelled .spell-end .result) (spelled .spell-end .ensures .0) (search needs) e (entered .args .message) (entered .args .reserve) (search needs) (search needs),
+    )
 
 pub write-accepted-spec : {M : Type 1} → statement M
 write-accepted-spec =

@@ -1,4 +1,4 @@
--- `pieces::keep` meets its contract: what is moved to the front is what the whole records leave.
+-- `pieces::keep` meets its contract: what is moved to the front is what stands from the place up to the end.
 -- Assumes nothing.
 use mathlib.Core.Path.{refl}
 use native.Mathlib.Omega.{arith}
@@ -8,26 +8,22 @@ use Rattle.pieces.proofs.keep.Statement.{statement}
 use Rattle.pieces.proofs.keep.Tie as tie
 
 returns : tie.Need-returns
-returns c = record { there = λ t. absurd (omega arith); missing = λ l. (refl, refl) }
+returns c = record { there = λ w. absurd (omega (arith, c .if1 .taken, w .ordered)); missing = λ m. (refl, refl) }
 
-whole-requires : tie.Need-whole-requires
-whole-requires c κs = search needs
+returns-2 : tie.Need-returns-2
+returns-2 c = record { there = λ w. absurd (omega (arith, c .if2 .taken, w .there)); missing = λ m. (refl, refl) }
 
 move-front-requires : tie.Need-move-front-requires
 move-front-requires c κs = search needs
 
-sub-result : tie.Need-sub-result
-sub-result c = search needs
-
 same-length : tie.Need-same-length
 same-length c = search needs
 
-returns-2 : tie.Need-returns-2
-returns-2 c =
+returns-3 : tie.Need-returns-3
+returns-3 c =
     let moved = c .before .before in
-    let counted = moved .before .before in
-    let args = counted .before .before .before .args in
-    keep-done (args .held .now) (args .count) (search needs) (counted .whole .result) (counted .whole .ensures) (moved .move-front .ensures)
+    let args = moved .before .before .before .before .before .args in
+    keep-done (args .held .now) (args .from) (args .end) (record { ordered = search needs; there = search needs }) (moved .move-front .ensures)
 
 pub keep-spec : {M : Type 1} → statement M
-keep-spec = tie.close (tie.spec returns whole-requires move-front-requires sub-result same-length returns-2)
+keep-spec = tie.close (tie.spec returns returns-2 move-front-requires same-length returns-3)
