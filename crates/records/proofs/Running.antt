@@ -109,6 +109,33 @@ module _ {A : Type 0} (t : Telling A) (last : Bool) where
         (λ (u : Standing Record). t .atRecord previous (heldBy u) (runFrom t last (previousAfter previous (numberOf u)) (offset + next) (drop next bytes)))
         (w .0 ∙ sym (piece-whole last (standsAt bytes at) (w .0)))
 
+-- no run comes farther than its bytes
+end-within :
+    (last : Bool) (fuel : ℕ) (previous : Number) (offset : ℕ) (left : List ℕ)
+    → runIn ending last fuel previous offset left .offset ≤ offset + length left
+unfolding runIn
+end-within last zero previous offset left = omega arith
+end-within last (suc fuel) previous offset left =
+    cases (inPiece last (standing left)) refl
+    (λ r. end-within last fuel (previousAfter previous (r .number)) (offset + recordLength r) (drop (recordLength r) left))
+  where
+    later : Record → Ending
+    later r = runIn ending last fuel (previousAfter previous (r .number)) (offset + recordLength r) (drop (recordLength r) left)
+
+    cases : (s : Standing Record)
+        → inPiece last (standing left) ≡ s
+        → ((r : Record) → later r .offset ≤ offset + recordLength r + length (drop (recordLength r) left))
+        → runAt ending last previous offset later s .offset ≤ offset + length left
+    cases ended q tail = omega arith
+    cases (stopped n) q tail = omega arith
+    cases (whole r) q tail =
+        let k = whole-long left (piece-whole last (standing left) q) in
+        omega (arith, tail r, k .1, length-drop (recordLength r) left)
+
+pub end-near :
+    (last : Bool) (previous : Number) (offset : ℕ) (left : List ℕ) → runFrom ending last previous offset left .offset ≤ offset + length left
+end-near last previous offset left = end-within last (length left) previous offset left
+
 -- a run over a piece that more may follow, where it did not stop, leaves less than a record
 left-within :
     (fuel : ℕ) (previous : Number) (offset : ℕ) (left : List ℕ)

@@ -14,7 +14,7 @@ use Rattle.lines.specs.Lines.{longest}
 use Rattle.sequence.specs.declared.kinds.Number.{Number}
 use Rattle.sequence.specs.Sequence.{previousAfter}
 use Rattle.records.specs.Records.{Record, recordLength, Standing, ended, stopped, whole, standing, inPiece}
-use Rattle.records.specs.Capture.{runAt, runIn, Ending, ending}
+use Rattle.records.specs.Capture.{Telling, runAt, runIn, Ending, ending}
 use Rattle.answers.proofs.Decoding.{a-decoder}
 use Rattle.pieces.proofs.Pieces.{keeps-once}
 use Rattle.run.specs.declared.kinds.Outcome.{Outcome}
@@ -102,19 +102,21 @@ module _ (decode : List ℤ → Answer (ℕ × ℕ)) (last : Bool) where
       → 1 ≤ length (runIn (lines decode) last fuel previous offset left)
   unfolding runIn
   stop-told zero previous offset left e = let z : _≡_ {A = ℕ} 0 1 = cc in absurd (omega arith)
-  stop-told (suc fuel) previous offset left e = cases (inPiece last (standing left)) e
+  stop-told (suc fuel) previous offset left e =
+      cases (inPiece last (standing left)) e
+      (λ r. stop-told fuel (previousAfter previous (r .number)) (offset + recordLength r) (drop (recordLength r) left))
     where
+      later : {A : Type 0} → Telling A → Record → A
+      later t r = runIn t last fuel (previousAfter previous (r .number)) (offset + recordLength r) (drop (recordLength r) left)
+
       cases :
           (s : Standing Record)
-          → runAt ending last previous offset
-          (λ r. runIn ending last fuel (previousAfter previous (r .number)) (offset + recordLength r) (drop (recordLength r) left)) s .stopped ≡ true
-          → 1 ≤ length (runAt (lines decode) last previous offset
-          (λ r. runIn (lines decode) last fuel (previousAfter previous (r .number)) (offset + recordLength r) (drop (recordLength r) left)) s)
-      cases ended e = let z : _≡_ {A = ℕ} 0 1 = cc in absurd (omega arith)
-      cases (stopped n) e = simp length-append (omega arith)
-      cases (whole r) e =
-          let tail = stop-told fuel (previousAfter previous (r .number)) (offset + recordLength r) (drop (recordLength r) left) e in
-          simp length-append (omega (arith, tail))
+          → runAt ending last previous offset (later ending) s .stopped ≡ true
+          → ((r : Record) → later ending r .stopped ≡ true → 1 ≤ length (later (lines decode) r))
+          → 1 ≤ length (runAt (lines decode) last previous offset (later (lines decode)) s)
+      cases ended e tail = let z : _≡_ {A = ℕ} 0 1 = cc in absurd (omega arith)
+      cases (stopped n) e tail = simp length-append (omega arith)
+      cases (whole r) e tail = simp length-append (omega (arith, tail r e))
 
 pub never-unrun :
     {last : Bool} {previous number : Number} {offset : ℕ} {bytes before after : List ℕ} {r : Outcome}

@@ -45,21 +45,21 @@ module _ (decode : List ℤ → Answer (ℕ × ℕ)) where
   same-lines (suc fuel) offset (a ∷ []) h = refl
   same-lines (suc fuel) offset (a ∷ b ∷ rest) h =
       cases (isOldMark a b) (leb oldLength (2 + length rest)) (isNewMark a b) (leb newLength (2 + length rest)) (h 0)
+      (same-lines fuel (offset + 98) (drop 98 (a ∷ b ∷ rest)) (later-marks (a ∷ b ∷ rest) h))
     where
       later : Record → List ℕ
       later r = runIn (lines decode) true fuel (previousAfter None (r .number)) (offset + recordLength r) (drop (recordLength r) (a ∷ b ∷ rest))
 
       cases : (o f n g : Bool)
           → n ≡ false
+          → runIn (lines decode) true fuel None (offset + 98) (drop 98 (a ∷ b ∷ rest)) ≡ oldIn decode fuel (offset + 98) (drop 98 (a ∷ b ∷ rest))
           → runAt (lines decode) true None offset later (inPiece true (tested o f n g rest))
           ≡ cond o (cond f (oldLine (decode (confidencesOf positions rest)) ++ oldIn decode fuel (offset + 98) (drop 96 rest)) (stoppedLine 10 offset))
           (stoppedLine 9 offset)
-      cases true true n g e =
-          let tail = same-lines fuel (offset + 98) (drop 98 (a ∷ b ∷ rest)) (later-marks (a ∷ b ∷ rest) h) in
-          λ i. same-line (decode (confidencesOf positions rest)) i ++ tail i
-      cases true false n g e = refl
-      cases false f true g e = let z : _≡_ {A = ℕ} 0 1 = cc in absurd (omega arith)
-      cases false f false g e = refl
+      cases true true n g e tail = λ i. same-line (decode (confidencesOf positions rest)) i ++ tail i
+      cases true false n g e tail = refl
+      cases false f true g e tail = let z : _≡_ {A = ℕ} 0 1 = cc in absurd (omega arith)
+      cases false f false g e tail = refl
 
   pub old-output : (bytes : List ℕ) → NoNewMark bytes → output decode bytes ≡ oldOutput decode bytes
   old-output bytes h = ap (λ (l : List ℕ). header ++ l) (same-lines (length bytes) 0 bytes h)

@@ -11,7 +11,7 @@ use Rattle.sequence.specs.declared.kinds.Number.{Number}
 use Rattle.sequence.specs.Sequence.{followsFrom, previousAfter}
 use Rattle.lines.specs.Lines.{stoppedLine, answerLine}
 use Rattle.records.specs.Records.{Record, recordLength, Standing, ended, stopped, whole, standing, inPiece}
-use Rattle.records.specs.Capture.{runAt, runIn, runFrom, Ending, ending}
+use Rattle.records.specs.Capture.{Telling, runAt, runIn, runFrom, Ending, ending}
 use Rattle.pieces.specs.Pieces.{allPieces, goingOn, turnsFrom}
 use Rattle.pieces.proofs.Pieces.{pieces-told}
 use Rattle.run.specs.Output.{lines, linesFrom}
@@ -27,28 +27,25 @@ module _ (decode : List ℤ → Answer (ℕ × ℕ)) where
       ≡ runIn (lines decode) last fuel previous offset left ++ goesOn on (runIn ending last fuel previous offset left)
   unfolding runIn
   run-goes on last zero previous offset left = refl
-  run-goes on last (suc fuel) previous offset left = cases (inPiece last (standing left))
+  run-goes on last (suc fuel) previous offset left =
+      cases (inPiece last (standing left))
+      (λ r. run-goes on last fuel (previousAfter previous (r .number)) (offset + recordLength r) (drop (recordLength r) left))
     where
-      later : Record → List ℕ
-      later r = runIn (goingOn (lines decode) on) last fuel (previousAfter previous (r .number)) (offset + recordLength r) (drop (recordLength r) left)
+      later : {A : Type 0} → Telling A → Record → A
+      later t r = runIn t last fuel (previousAfter previous (r .number)) (offset + recordLength r) (drop (recordLength r) left)
+
+      both : Telling (List ℕ)
+      both = goingOn (lines decode) on
 
       cases : (s : Standing Record)
-          → runAt (goingOn (lines decode) on) last previous offset
-          (λ r. runIn (goingOn (lines decode) on) last fuel (previousAfter previous (r .number)) (offset + recordLength r) (drop (recordLength r) left)) s
-          ≡ runAt (lines decode) last previous offset
-          (λ r. runIn (lines decode) last fuel (previousAfter previous (r .number)) (offset + recordLength r) (drop (recordLength r) left)) s
-          ++ goesOn on
-          (runAt ending last previous offset
-          (λ r. runIn ending last fuel (previousAfter previous (r .number)) (offset + recordLength r) (drop (recordLength r) left)) s)
-      cases ended = refl
-      cases (stopped n) = sym (append-nil (stoppedLine n offset))
-      cases (whole r) =
-          let p = previousAfter previous (r .number) in
-          let o = offset + recordLength r in
-          let rest = drop (recordLength r) left in
+          → ((r : Record) → later both r ≡ later (lines decode) r ++ goesOn on (later ending r))
+          → runAt both last previous offset (later both) s
+          ≡ runAt (lines decode) last previous offset (later (lines decode)) s ++ goesOn on (runAt ending last previous offset (later ending) s)
+      cases ended tail = refl
+      cases (stopped n) tail = sym (append-nil (stoppedLine n offset))
+      cases (whole r) tail =
           let line = answerLine (decode (r .reading)) (followsFrom previous (r .number)) in
-          ap (λ (l : List ℕ). line ++ l) (run-goes on last fuel p o rest)
-          ∙ sym (append-assoc line (runIn (lines decode) last fuel p o rest) (goesOn on (runIn ending last fuel p o rest)))
+          ap (λ (l : List ℕ). line ++ l) (tail r) ∙ sym (append-assoc line (later (lines decode) r) (goesOn on (later ending r)))
 
   -- a turn: its text, and where it did not stop the turns after it, from where it ended
   pub turns-go :

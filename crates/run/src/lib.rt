@@ -1,5 +1,6 @@
 // The run over bytes of a capture: each record's line, and the line where it stopped, into a lent buffer. Where there is no room nothing is
 // written, and the outcome says so.
+ghost use mathlib.Core.Bool.{true};
 ghost use Prim.Native.Nat.{_≤_};
 ghost use lib.ListN.{length};
 ghost use Rattle.run.specs.Runs.{Room, Lacks, Runs, RunRule, Turns, TurnRule};

@@ -1,31 +1,36 @@
 -- `run::run_through` meets its contract. The invariant: the text of the records before a place stands in the buffer, and the text of all is
--- that and the text from the place on. It is no longer than what was read.
+-- that and the text from the place on, after the previous number there. It is no longer than what was read.
 -- Assumes nothing.
-use mathlib.Core.Path.{sym, ap, _∙_}
+use mathlib.Core.Path.{_≡_, sym, ap, _∙_}
 use Prim.Native.Nat.{_-_}
 use native.Mathlib.Omega.{arith}
 use borrow.Author.Needs.{needs}
 use lib.ListN.{length}
-use Rattle.records.specs.Records.{stopped, standsAt, stepAnswer}
-use Rattle.records.proofs.Standing.{whole-room, next-whole}
+use Rattle.sequence.specs.Sequence.{followsFrom, previousAfter}
+use Rattle.records.specs.Records.{whole, stopped, standsAt, inPiece, nextFrom, numberOf, readingOf, standsAnswer}
+use Rattle.records.proofs.Standing.{whole-told, told-room}
+use Rattle.answers.specs.Decoding.{Tells}
 use Rattle.run.proofs.Upto.{Upto, up-start, up-record, up-ended, up-stopped}
 use Rattle.run.proofs.run_through.Statement.{statement}
 use Rattle.run.proofs.run_through.Tie as tie
 
 abbrev Inv-loop : tie.InvT-loop
-Inv-loop bytes offset out₀ at₀ to₀ out at to = Upto offset bytes out₀ out at to
+Inv-loop bytes last offset out₀ before₀ at₀ to₀ out before at to = Upto last before₀ offset bytes out₀ out before at to
 
 abbrev μ-loop : tie.MeasureT-loop
-μ-loop bytes offset out₀ at₀ to₀ out at to = length bytes - at
+μ-loop bytes last offset out₀ before₀ at₀ to₀ out before at to = length bytes - at
 
 loop-holds : tie.Need-loop-holds Inv-loop μ-loop
-loop-holds c = let args = c .before .before .args in up-start (args .offset) (args .bytes .now) (args .out .now)
+loop-holds c = let args = c .before .before .args in up-start (args .last) (args .previous) (args .offset) (args .bytes .now) (args .out .now)
 
-step-requires : tie.Need-step-requires Inv-loop μ-loop
-step-requires c κs = search needs
+stands-at-requires : tie.Need-stands-at-requires Inv-loop μ-loop
+stands-at-requires c κs = search needs
 
 enum-known-next : tie.Need-enum-known-next Inv-loop μ-loop
 enum-known-next c = search needs
+
+number-requires : tie.Need-number-requires Inv-loop μ-loop
+number-requires c κs = search needs
 
 confidences-requires : tie.Need-confidences-requires Inv-loop μ-loop
 confidences-requires c κs = search needs
@@ -33,30 +38,46 @@ confidences-requires c κs = search needs
 slice-aggregate-write-answer : tie.Need-slice-aggregate-write-answer Inv-loop μ-loop
 slice-aggregate-write-answer c = search needs
 
+follows-requires : tie.Need-follows-requires Inv-loop μ-loop
+follows-requires c κs = search needs
+
 write-answer-requires : tie.Need-write-answer-requires Inv-loop μ-loop
 write-answer-requires c κs = search needs
 
+previous-after-requires : tie.Need-previous-after-requires Inv-loop μ-loop
+previous-after-requires c κs = search needs
+
+-- the record that is told
+told : (c : tie.After-next Inv-loop μ-loop)
+    → let at-loop = c .before .before .before in
+    let args = at-loop .before .before .before .args in
+    nextFrom (at-loop .loop .at) (inPiece (args .last) (standsAt (args .bytes .now) (at-loop .loop .at))) ≡ whole (c .next .given .0 .0)
+told c = let called = c .before .before in sym (called .stands-at .ensures) ∙ ap standsAnswer (c .next .given .1)
+
 loop-less : tie.Need-loop-less Inv-loop μ-loop
 loop-less c =
-    let at-match = c .before .before .before .before .before .before .before in
-    let called = at-match .before .before in
-    let at-loop = called .before in
-    let bytes = at-loop .before .before .before .args .bytes .now in
-    let at = at-loop .loop .at in
-    let e = sym (called .step .ensures) ∙ ap stepAnswer (at-match .next .given .1) in
-    omega (arith, whole-room bytes at e, next-whole at (standsAt bytes at) e .1)
+    let matched = c .before .before .before .before .before .before .before .before .before .before in
+    let at-loop = matched .before .before .before in
+    let args = at-loop .before .before .before .args in
+    let room = told-room (whole-told (args .last) (args .bytes .now) (at-loop .loop .at) (told matched)) in
+    omega (arith, room .0, room .1)
 
 loop-again : tie.Need-loop-again Inv-loop μ-loop
 loop-again c =
-    let written = c .before .before in
-    let made = written .before .before .before in
-    let at-match = made .before .before in
-    let called = at-match .before .before in
-    let at-loop = called .before in
-    up-record (at-loop .loop .inv) (at-loop .before .before .before .pre) (sym (called .step .ensures) ∙ ap stepAnswer (at-match .next .given .1))
-    (made .confidences .ensures)
-    (search needs)
-    (written .write-answer .ensures)
+    let written = c .before .before .before in
+    let followed = written .before .before in
+    let made = followed .before .before in
+    let numbered = made .before in
+    let matched = numbered .before .before in
+    let at-loop = matched .before .before .before in
+    let entered = at-loop .before .before .before in
+    let args = entered .args in
+    let number = numbered .number .ensures in
+    let before = at-loop .loop .before in
+    let follows = followed .follows .ensures ∙ ap (followsFrom before) number in
+    rw (sym (c .previous-after .ensures ∙ ap (previousAfter before) number)) at
+    (up-record (args .last) (args .previous) (args .offset) (args .bytes .now) (args .out .now) (entered .pre) (at-loop .loop .inv) (told matched) (search needs)
+    (rw (made .confidences .ensures) at (rw follows at (written .write-answer .ensures))))
 
 enum-told : tie.Need-enum-told Inv-loop μ-loop
 enum-told c = search needs
@@ -67,7 +88,11 @@ same-length c = search needs
 returns : tie.Need-returns Inv-loop μ-loop
 returns c =
     let called = c .before .before in
-    up-ended (called .before .loop .inv) (sym (called .step .ensures) ∙ ap stepAnswer (c .enum-told .given .1))
+    let at-loop = called .before in
+    let entered = at-loop .before .before .before in
+    let args = entered .args in
+    up-ended (args .last) (args .previous) (args .offset) (args .bytes .now) (args .out .now) (entered .pre) (at-loop .loop .inv)
+    (sym (called .stands-at .ensures) ∙ ap standsAnswer (c .enum-told .given .1))
 
 enum-known-reason : tie.Need-enum-known-reason Inv-loop μ-loop
 enum-known-reason c = search needs
@@ -90,11 +115,13 @@ returns-2 : tie.Need-returns-2 Inv-loop μ-loop
 returns-2 c =
     let written = c .before .before in
     let numbered = written .before .before in
-    let at-match = numbered .before .before in
-    let called = at-match .before .before in
+    let matched = numbered .before .before in
+    let called = matched .before .before in
     let at-loop = called .before in
-    up-stopped (at-loop .loop .inv) (at-loop .before .before .before .pre)
-    (sym (called .step .ensures) ∙ ap stepAnswer (at-match .reason .given .1) ∙ ap stopped (sym (numbered .refusal-number .ensures)))
+    let entered = at-loop .before .before .before in
+    let args = entered .args in
+    up-stopped (args .last) (args .previous) (args .offset) (args .bytes .now) (args .out .now) (entered .pre) (at-loop .loop .inv)
+    (sym (called .stands-at .ensures) ∙ ap standsAnswer (matched .reason .given .1) ∙ ap stopped (sym (numbered .refusal-number .ensures)))
     (search needs)
     (written .write-stopped .ensures)
 
@@ -105,11 +132,14 @@ run-through-spec =
     Inv-loop
     μ-loop
     loop-holds
-    step-requires
+    stands-at-requires
     enum-known-next
+    number-requires
     confidences-requires
     slice-aggregate-write-answer
+    follows-requires
     write-answer-requires
+    previous-after-requires
     loop-less
     loop-again
     enum-told

@@ -1,40 +1,49 @@
--- `run::take_turn` meets its contract: the run is over the whole records in front, and what is left of the bytes is kept.
+-- `run::take_turn` meets its contract: the run is over the bytes that are held, and what it did not come through is kept.
 -- Assumes nothing.
-use mathlib.Core.Path.{_≡_, sym, ap}
-use Prim.Native.Nat.{ℕ, _+_}
+use mathlib.Core.Path.{_≡_, refl, sym, ap}
+use mathlib.Core.Bool.{false}
+use Prim.Native.Nat.{_+_, _≤_}
 use native.Mathlib.Omega.{arith}
 use borrow.Author.Needs.{needs}
 use lib.ListN.{length, take}
 use lib.Seq.{length-take-le}
+use Rattle.records.specs.Capture.{Ending}
+use Rattle.records.proofs.Running.{end-near}
 use Rattle.run.proofs.take_turn.Statement.{statement}
 use Rattle.run.proofs.take_turn.Tie as tie
 
--- the whole records, by their length
-long-front : (c : tie.After-whole)
-    → length (take (c .whole .result) (c .before .before .before .args .held .now)) ≡ c .whole .result
-long-front c = length-take-le (c .whole .result) (c .before .before .before .args .held .now) (search needs)
-
-whole-requires : tie.Need-whole-requires
-whole-requires c κs = search needs
+-- the bytes of the turn, by their length
+long-front : (c : tie.Start) → length (take (c .args .count) (c .args .held .now)) ≡ c .args .count
+long-front c = length-take-le (c .args .count) (c .args .held .now) (c .pre .0)
 
 slice-reshare-prefix-run-through : tie.Need-slice-reshare-prefix-run-through
 slice-reshare-prefix-run-through c = search needs
 
 slice-aggregate-run-through : tie.Need-slice-aggregate-run-through
-slice-aggregate-run-through c = sym (long-front (c .before))
+slice-aggregate-run-through c = sym (long-front (c .before .before .before))
 
 run-through-requires : tie.Need-run-through-requires
 run-through-requires c κs =
-    let counted = c .before .before in
-    let room = counted .before .before .before .pre .1 in
-    let e = long-front counted in
-    record { lines = omega (arith, room .lines, counted .whole .ensures, e); offsets = omega (arith, room .offsets, counted .whole .ensures, e) }
+    let start = c .before .before .before .before in
+    let e = long-front start in
+    record { lines = omega (arith, start .pre .1 .lines, e); offsets = omega (arith, start .pre .1 .offsets, e) }
+
+-- the run came no farther than these bytes
+near : (c : tie.After-run-through) → c .run-through .result .through ≤ c .before .before .before .before .before .args .count
+near c =
+    let start = c .before .before .before .before .before in
+    let args = start .args in
+    let far : args .offset + c .run-through .result .through ≤ args .offset + length (take (args .count) (args .held .now)) =
+    rw (ap (λ (e : Ending). e .offset) (c .run-through .ensures .ended)) (end-near false (args .previous) (args .offset) (take (args .count) (args .held .now))) in
+    omega (arith, far, long-front start)
 
 keep-requires : tie.Need-keep-requires
 keep-requires c κs = search needs
 
 add-next : tie.Need-add-next
-add-next c = search needs
+add-next c =
+    let ran = c .before .before .before .before .before .before in
+    omega (arith, near ran, ran .before .before .before .before .before .pre .1 .offsets)
 
 same-length : tie.Need-same-length
 same-length c = search needs
@@ -46,19 +55,12 @@ returns : tie.Need-returns
 returns c =
     let kept = c .before .before in
     let ran = kept .before .before .before .before in
-    let counted = ran .before .before .before in
-    let e = counted .whole .ensures in
-    record {
-      ran = rw e at (ran .run-through .ensures);
-      keeps = kept .keep .ensures;
-      next = ap (λ (n : ℕ). counted .before .before .before .args .offset + n) e;
-    }
+    record { ran = ran .run-through .ensures; keeps = kept .keep .ensures; next = refl }
 
 pub take-turn-spec : {M : Type 1} → statement M
 take-turn-spec =
     tie.close
     (tie.spec
-    whole-requires
     slice-reshare-prefix-run-through
     slice-aggregate-run-through
     run-through-requires
