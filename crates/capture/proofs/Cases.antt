@@ -1,34 +1,40 @@
--- The worked capture gives its four lines, byte for byte: over any decoder that answers its two readings so, and with nothing left open, since
--- every decoder answers them as the soft decoder does.
+-- The worked captures give their lines, byte for byte, one by one over their table: every decoder answers their two readings as the soft
+-- decoder does.
 -- Assumes nothing.
 use mathlib.Core.Path.{_≡_, ap, _∙_}
-use mathlib.Core.List.{List}
+use mathlib.Core.List.{List, [], _++_}
 use Prim.Native.Nat.{ℕ}
 use lib.IntN.{ℤ}
 use Rattle.golay.specs.Answers.{Answer, accepted, refused}
 use Rattle.reading.specs.Cases.{allOnes, allZeros}
 use Rattle.soft.proofs.Cases.{ones-answered, zeros-refused}
+use Rattle.sequence.specs.declared.kinds.Follows.the-variants.{Unnumbered, Lost, Repeat, Late}
 use Rattle.texts.specs.Texts.{decimal}
+use Rattle.lines.specs.Lines.{header, answerLine, stoppedLine}
 use Rattle.records.specs.Records.{twosComplement, confidencesOf, standing}
 use Rattle.records.specs.Capture.{runIn}
 use Rattle.run.specs.Output.{output}
 use Rattle.answers.specs.Decoding.{messageAndReserve, Decoder}
-use Rattle.capture.specs.Cases.{capture, captureText}
+use Rattle.capture.specs.Cases.{worked, workedNumbers, cases, AllHold}
 
-pub capture-output :
-    (decode : List ℤ → Answer (ℕ × ℕ))
-    → decode allOnes ≡ accepted (0, 8)
-    → decode allZeros ≡ refused 6
-    → output decode capture ≡ captureText
-unfolding twosComplement confidencesOf standing decimal runIn capture captureText
-capture-output decode ones zeros = rw (ones, zeros)
+module _ (decode : List ℤ → Answer (ℕ × ℕ)) where
+  module _ (ones : decode allOnes ≡ accepted (0, 8)) where
+    worked-holds : decode allZeros ≡ refused 6 → output decode (worked .capture) ≡ worked .text
+    unfolding twosComplement confidencesOf standing decimal runIn
+    worked-holds zeros = λ i. header ++ (answerLine (ones i) Unnumbered ++ (answerLine (zeros i) Unnumbered ++ stoppedLine 10 196))
 
-module _ (decode : List ℤ → Answer (ℕ × ℕ)) (D : Decoder decode) where
-  ones-decoded : decode allOnes ≡ accepted (0, 8)
-  ones-decoded = D .told allOnes ∙ ap messageAndReserve (ones-answered (D .soft allOnes) (D .allowed allOnes))
+    numbers-hold : output decode (workedNumbers .capture) ≡ workedNumbers .text
+    unfolding twosComplement confidencesOf standing decimal runIn
+    numbers-hold = λ i.
+        header ++ (answerLine (ones i) (Lost 0) ++ (answerLine (ones i) (Lost 1) ++ (answerLine (ones i) Repeat ++ (answerLine (ones i) Late ++ []))))
 
-  zeros-decoded : decode allZeros ≡ refused 6
-  zeros-decoded = D .told allZeros ∙ ap messageAndReserve (zeros-refused (D .soft allZeros) (D .allowed allZeros))
+  module _ (D : Decoder decode) where
+    ones-decoded : decode allOnes ≡ accepted (0, 8)
+    ones-decoded = D .told allOnes ∙ ap messageAndReserve (ones-answered (D .soft allOnes) (D .allowed allOnes))
 
-  pub capture-decoded : output decode capture ≡ captureText
-  capture-decoded = capture-output decode ones-decoded zeros-decoded
+    zeros-decoded : decode allZeros ≡ refused 6
+    zeros-decoded = D .told allZeros ∙ ap messageAndReserve (zeros-refused (D .soft allZeros) (D .allowed allZeros))
+
+    pub cases-hold : AllHold decode cases
+    unfolding cases
+    cases-hold = (worked-holds ones-decoded zeros-decoded, (numbers-hold ones-decoded, tt))

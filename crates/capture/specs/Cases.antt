@@ -1,8 +1,12 @@
 -- Rules 13.7 and 13.9: the worked captures, and their outputs.
+use mathlib.Core.Path.{_≡_}
 use mathlib.Core.List.{List, [], _∷_, _++_}
 use Prim.Native.Nat.{ℕ, zero, suc}
+use lib.IntN.{ℤ}
 use Rattle.code.specs.Code.{positions}
+use Rattle.golay.specs.Answers.{Answer}
 use Rattle.texts.specs.Ascii.{ascii}
+use Rattle.run.specs.Output.{output}
 
 -- n confidences of one value, 0 to 255, as bytes
 abbrev pub repeated : ℕ → ℕ → List ℕ
@@ -37,3 +41,8 @@ workedNumbers = record {
 
 unfoldable pub cases : List Case
 cases = worked ∷ workedNumbers ∷ []
+
+-- each gives its text
+abbrev pub AllHold : (List ℤ → Answer (ℕ × ℕ)) → List Case → Type 0
+AllHold decode [] = Unit {0}
+AllHold decode (c ∷ cs) = (output decode (c .capture) ≡ c .text) × AllHold decode cs

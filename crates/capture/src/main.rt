@@ -86,7 +86,7 @@ fn write_turn(held: &mut [u8], count: usize, previous: Number, offset: u64, text
     requires { ⌜ count ≤ length (now held) ⌝ }
     requires { ⌜ Room offset count (length (now text)) ⌝ }
     ensures { λ r. ⌜ r .next + r .left ≡ offset + count ⌝ }
-    ensures { λ r. ⌜ r .outcome .stopped ≡ false → r .left < newLength ⌝ }
+    ensures { λ r. ⌜ (r .outcome .stopped ≡ false → r .left < newLength) ⌝ }
 {
     let mut t = run::turn(held, count, previous, offset, text);
     let outcome = t.outcome;

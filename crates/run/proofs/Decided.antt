@@ -3,7 +3,7 @@
 use mathlib.Core.Path.{_≡_, refl, sym, ap, _∙_}
 use mathlib.Core.Bool.{Bool, true, false}
 use mathlib.Core.List.{List}
-use Prim.Native.Nat.{ℕ, zero, suc, _+_, _≤_, _^_}
+use Prim.Native.Nat.{ℕ, zero, suc, _+_, _≤_, _<_, _^_}
 use native.Mathlib.Omega.{arith}
 use lib.Dec.{leb, ltb}
 use lib.IntN.{ℤ}
@@ -13,8 +13,9 @@ use Rattle.golay.specs.Answers.{Answer}
 use Rattle.lines.specs.Lines.{longest}
 use Rattle.sequence.specs.declared.kinds.Number.{Number}
 use Rattle.sequence.specs.Sequence.{previousAfter}
-use Rattle.records.specs.Records.{Record, recordLength, Standing, ended, stopped, whole, standing, inPiece}
+use Rattle.records.specs.Records.{Record, newLength, recordLength, Standing, ended, stopped, whole, standing, inPiece}
 use Rattle.records.specs.Capture.{Telling, runAt, runIn, Ending, ending}
+use Rattle.records.proofs.Running.{end-near, left-short}
 use Rattle.answers.proofs.Decoding.{a-decoder}
 use Rattle.pieces.proofs.Pieces.{keeps-once}
 use Rattle.run.specs.declared.kinds.Outcome.{Outcome}
@@ -135,3 +136,19 @@ pub run-fits :
     → Runs last previous offset bytes before after r
     → r .put ≤ length before
 run-fits R = let p = R .text (a-decoder .0) (a-decoder .1) in omega (arith, p .room, p .place)
+
+-- a run came no farther than its bytes; and where more may follow and it did not stop, it left less than a record
+pub run-near :
+    {last : Bool} {previous : Number} {offset : ℕ} {bytes before after : List ℕ} {r : Outcome}
+    → Runs last previous offset bytes before after r
+    → r .through ≤ length bytes
+run-near {last} {previous} {offset} {bytes} R = omega (arith, ap (λ (e : Ending). e .offset) (R .ended), end-near last previous offset bytes)
+
+pub run-left :
+    {previous : Number} {offset : ℕ} {bytes before after : List ℕ} {r : Outcome}
+    → Runs false previous offset bytes before after r
+    → r .stopped ≡ false
+    → length bytes < r .through + newLength
+run-left {previous} {offset} {bytes} R e =
+    let short = left-short previous offset bytes (ap (λ (e : Ending). e .stopped) (sym (R .ended)) ∙ e) in
+    omega (arith, ap (λ (e : Ending). e .offset) (R .ended), short)

@@ -4,16 +4,16 @@ use mathlib.Core.Path.{_≡_}
 use Prim.Native.Nat.{_+_, _-_, _<_, _^_}
 use borrow.Author.Needs.{needs}
 use lib.ListN.{length}
-use Rattle.records.specs.Records.{recordLength}
+use Rattle.records.specs.Records.{newLength}
 use Rattle.capture.proofs.decode_pieces.Statement.{statement}
 use Rattle.capture.proofs.decode_pieces.Tie as tie
 
 abbrev Inv-loop : tie.InvT-loop
-Inv-loop fd name shows held₀ text₀ offset₀ count₀ held text offset count =
-    (length held ≡ length held₀) × (length text ≡ length text₀) × (count < recordLength) × (offset + count < 2 ^ 64)
+Inv-loop fd name shows held₀ text₀ offset₀ count₀ previous₀ held text offset count previous =
+    (length held ≡ length held₀) × (length text ≡ length text₀) × (count < newLength) × (offset + count < 2 ^ 64)
 
 abbrev μ-loop : tie.MeasureT-loop
-μ-loop fd name shows held₀ text₀ offset₀ count₀ held text offset count = 2 ^ 64 - (offset + count)
+μ-loop fd name shows held₀ text₀ offset₀ count₀ previous₀ held text offset count previous = 2 ^ 64 - (offset + count)
 
 loop-holds : tie.Need-loop-holds Inv-loop μ-loop
 loop-holds c = search needs
@@ -84,6 +84,11 @@ same-length-6 c = search needs
 returns-3 : tie.Need-returns-3 Inv-loop μ-loop
 returns-3 c = search needs
 
+-- a turn that did not stop left less than a record
+left : (c : tie.After-show-progress Inv-loop μ-loop)
+    → c .before .before .before .before .before .before .before .write-turn .result .left < newLength
+left c = let tested = c .before in tested .before .before .before .before .before .before .write-turn .ensures .1 (tested .if3 .left)
+
 show-progress-requires : tie.Need-show-progress-requires Inv-loop μ-loop
 show-progress-requires c κs = search needs
 
@@ -91,7 +96,7 @@ loop-less : tie.Need-loop-less Inv-loop μ-loop
 loop-less c = search needs
 
 loop-again : tie.Need-loop-again Inv-loop μ-loop
-loop-again c = search needs
+loop-again c = (search needs, search needs, left c, search needs)
 
 same-length-7 : tie.Need-same-length-7 Inv-loop μ-loop
 same-length-7 c = search needs

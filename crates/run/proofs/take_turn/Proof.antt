@@ -1,14 +1,12 @@
 -- `run::take_turn` meets its contract: the run is over the bytes that are held, and what it did not come through is kept.
 -- Assumes nothing.
-use mathlib.Core.Path.{_≡_, refl, sym, ap}
-use mathlib.Core.Bool.{false}
-use Prim.Native.Nat.{_+_, _≤_}
+use mathlib.Core.Path.{_≡_, refl, sym}
+use Prim.Native.Nat.{_≤_}
 use native.Mathlib.Omega.{arith}
 use borrow.Author.Needs.{needs}
 use lib.ListN.{length, take}
 use lib.Seq.{length-take-le}
-use Rattle.records.specs.Capture.{Ending}
-use Rattle.records.proofs.Running.{end-near}
+use Rattle.run.proofs.Decided.{run-near}
 use Rattle.run.proofs.take_turn.Statement.{statement}
 use Rattle.run.proofs.take_turn.Tie as tie
 
@@ -30,12 +28,7 @@ run-through-requires c κs =
 
 -- the run came no farther than these bytes
 near : (c : tie.After-run-through) → c .run-through .result .through ≤ c .before .before .before .before .before .args .count
-near c =
-    let start = c .before .before .before .before .before in
-    let args = start .args in
-    let far : args .offset + c .run-through .result .through ≤ args .offset + length (take (args .count) (args .held .now)) =
-    rw (ap (λ (e : Ending). e .offset) (c .run-through .ensures .ended)) (end-near false (args .previous) (args .offset) (take (args .count) (args .held .now))) in
-    omega (arith, far, long-front start)
+near c = omega (arith, run-near (c .run-through .ensures), long-front (c .before .before .before .before .before))
 
 keep-requires : tie.Need-keep-requires
 keep-requires c κs = search needs
