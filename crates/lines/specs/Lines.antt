@@ -1,30 +1,23 @@
 -- Rules 13.2 to 13.5 and 13.8: the text of each line, its line feed included.
-use mathlib.Core.List.{List, [], _++_}
+use mathlib.Core.List.{List}
 use Prim.Native.Nat.{ℕ}
 use Rattle.golay.specs.Answers.{Answer, accepted, refused}
 use Rattle.sequence.specs.declared.kinds.Follows.{Follows}
-use Rattle.sequence.specs.declared.kinds.Follows.the-variants.{Unnumbered, Lost, Repeat, Late}
 use Rattle.texts.specs.Ascii.{ascii}
-use Rattle.texts.specs.Texts.{decimal, lineFeed, lineOf, lineOfTwo}
+use Rattle.texts.specs.Texts.{lineFeed, lineOf, lineOfTwo}
+use Rattle.suffixes.specs.Suffixes.{endOf}
 
 -- Rule 13.2: the header
 abbrev pub header : List ℕ
 header = ascii "message reserve\n"
 
--- Rule 13.8: what the line of a record has more, as in "0 8 1" or "refused 6 late"
-abbrev pub suffix : Follows → List ℕ
-suffix Unnumbered = []
-suffix (Lost n) = ascii " " ++ decimal n
-suffix Repeat = ascii " repeat"
-suffix Late = ascii " late"
-
 -- Rules 13.3 and 13.8, as in "0 8"
 abbrev pub acceptedLine : ℕ → ℕ → Follows → List ℕ
-acceptedLine message reserve follows = lineOfTwo (ascii "") message (ascii " ") reserve (suffix follows ++ lineFeed)
+acceptedLine message reserve follows = lineOfTwo (ascii "") message (ascii " ") reserve (endOf follows)
 
 -- Rules 13.4 and 13.8, as in "refused 6"
 abbrev pub refusedLine : ℕ → Follows → List ℕ
-refusedLine number follows = lineOf (ascii "refused ") number (suffix follows ++ lineFeed)
+refusedLine number follows = lineOf (ascii "refused ") number (endOf follows)
 
 -- Rule 13.5, as in "stopped 10 at 196"
 abbrev pub stoppedLine : ℕ → ℕ → List ℕ

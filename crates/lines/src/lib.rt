@@ -1,13 +1,11 @@
 // The text of each line of output, put into a lent buffer at a place. A line that does not fit is not begun: no byte of the buffer
 // changes, and the answer is the place itself.
-ghost use mathlib.Core.Path.{_≡_};
-ghost use mathlib.Core.List.{_++_};
 ghost use Prim.Native.Nat.{_≤_};
-ghost use lib.ListN.{length, take};
+ghost use lib.ListN.{length};
 ghost use Rattle.texts.specs.Buffers.{Writes};
-ghost use Rattle.texts.specs.Texts.{lineFeed};
-ghost use Rattle.lines.specs.Lines.{header, suffix, acceptedLine, refusedLine, stoppedLine, longest};
+ghost use Rattle.lines.specs.Lines.{header, acceptedLine, refusedLine, stoppedLine, longest};
 use sequence::kinds::Follows;
+use suffixes::write_end;
 use texts::write_one;
 use texts::write_text;
 use texts::write_two;
@@ -22,27 +20,13 @@ pub fn write_header(out: &mut [u8], at: usize) -> usize
     write_text(b"message reserve\n", out, at)
 }
 
-// Puts what the line of a record ends with at the start of a buffer, and answers how many bytes that are (rule 13.8).
-fn spell_end(follows: Follows, end: &mut [u8]) -> usize
-    requires { ⌜ length (now end) ≡ 8 ⌝ }
-    ensures { λ r. ⌜ r ≤ 8 ⌝ }
-    ensures { λ r. ⌜ take r (now (end .exit)) ≡ suffix follows ++ lineFeed ⌝ }
-{
-    match follows {
-        Follows::Unnumbered => write_text(b"\n", end, 0),
-        Follows::Lost(n) => write_one(b" ", n as u64, b"\n", end, 0),
-        Follows::Repeat => write_text(b" repeat\n", end, 0),
-        Follows::Late => write_text(b" late\n", end, 0),
-    }
-}
-
 // As in "0 8" (rule 13.3).
 pub fn write_accepted(message: u32, reserve: u64, follows: Follows, out: &mut [u8], at: usize) -> usize
     ensures { λ r. ⌜ Writes (acceptedLine message reserve follows) (now (out .entry)) at (now (out .exit)) r ⌝ }
     ensures { λ _. ⌜ length (acceptedLine message reserve follows) ≤ longest ⌝ }
 {
     let mut end = [0u8; 8];
-    let k = spell_end(follows, &mut end);
+    let k = write_end(follows, &mut end, 0);
     write_two(b"", message as u64, b" ", reserve, &end[..k], out, at)
 }
 
@@ -52,7 +36,7 @@ pub fn write_refused(number: u8, follows: Follows, out: &mut [u8], at: usize) ->
     ensures { λ _. ⌜ length (refusedLine number follows) ≤ longest ⌝ }
 {
     let mut end = [0u8; 8];
-    let k = spell_end(follows, &mut end);
+    let k = write_end(follows, &mut end, 0);
     write_one(b"refused ", number as u64, &end[..k], out, at)
 }
 

@@ -45,7 +45,7 @@ fn confidences(case: &[u8], from: usize) -> [i32; 144]
     let mut made = [0i32; 144];
     let mut i = 0;
     while i < BUFFER {
-        let reading = records::confidences(case, from + OLD_RECORD * (i / POSITIONS));
+        let reading = contents::confidences(case, from + OLD_RECORD * (i / POSITIONS));
         made[i] = reading[i % POSITIONS];
         i += 1;
     }

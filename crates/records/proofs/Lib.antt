@@ -1,4 +1,3 @@
-pub mod Readings
 pub mod Standing
 pub mod Running
 pub mod Decided

@@ -3,7 +3,7 @@
 use mathlib.Core.Path.{_≡_, refl, sym, ap, _∙_}
 use mathlib.Core.Bool.{Bool, true, false, cond}
 use mathlib.Core.List.{List, [], _∷_, _++_}
-use Prim.Native.Nat.{ℕ, _+_, _-_, _*_, _≤_, _<_}
+use Prim.Native.Nat.{ℕ, zero, suc, _+_, _-_, _*_, _≤_, _<_}
 use native.Mathlib.Nat.{add-zero}
 use native.Mathlib.Omega.{arith}
 use lib.Dec.{leb, eqb, lit<}
@@ -16,7 +16,6 @@ use Rattle.golay.specs.Bytes.{wordOf}
 use Rattle.sequence.specs.declared.kinds.Number.{Number}
 use Rattle.sequence.specs.declared.kinds.Number.the-variants.{None, Some}
 use Rattle.records.specs.Records.{isOldMark, isNewMark, Record, oldLength, newLength, lengthWith, recordLength, confidencesOf, Standing, ended, stopped, whole, unfinished, standing, standsAt, inPiece, nextFrom, numberOf, readingOf}
-use Rattle.records.proofs.Readings.{confidences-front}
 
 -- a record of either kind, by the bytes after its mark
 abbrev pub oldAfter : List ℕ → Record
@@ -135,6 +134,15 @@ whole-long left {r} e = cases (whole-known left e)
     cases (new l e) = let n : recordLength r ≡ newLength = ap recordLength e in (omega (arith, n), omega (arith, n))
 
 -- ---- in a piece
+
+-- the confidences that bytes in front hold
+confidences-front : (n : ℕ) (front rest : List ℕ) → 4 * n ≤ length front → confidencesOf n (front ++ rest) ≡ confidencesOf n front
+unfolding confidencesOf
+confidences-front zero front rest h = refl
+confidences-front (suc n) front rest h =
+    let l : 4 ≤ length front = omega arith in
+    let m : 4 * n ≤ length (drop 4 front) = simp length-drop (omega arith) in
+    rw (take-append-le 4 front rest l, drop-append-le 4 front rest l, confidences-front n (drop 4 front) rest m)
 
 -- a whole record is one in every piece
 pub piece-whole : (last : Bool) (s : Standing Record) {r : Record} → inPiece last s ≡ whole r → s ≡ whole r

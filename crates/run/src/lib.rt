@@ -38,8 +38,8 @@ fn run_through(bytes: &[u8], last: bool, previous: Number, offset: u64, out: &mu
     loop {
         match records::stands_at(bytes, at, last) {
             Stands::Record(next) => {
-                let number = records::number(bytes, at);
-                let reading = records::confidences(bytes, at);
+                let number = contents::number(bytes, at);
+                let reading = contents::confidences(bytes, at);
                 to = answers::write_answer(&reading, sequence::follows(before, number), out, to);
                 before = sequence::previous_after(before, number);
                 at = next;

@@ -1,28 +1,43 @@
--- `lines::write_refused` meets its contract: what was spelled is what the line ends with.
+-- `lines::write_refused` meets its contract: the end has room in the array, so what stands there is what the line ends with.
 -- Assumes nothing.
-use mathlib.Core.Path.{sym}
+use mathlib.Core.Path.{_≡_, sym}
+use Prim.Native.Nat.{_≤_}
+use native.Mathlib.Omega.{arith}
 use borrow.Author.Needs.{needs}
+use lib.ListN.{length, take}
 use lib.Seq.{length-take-le}
+use Rattle.texts.proofs.Buffers.{writes-puts, puts-front}
+use Rattle.suffixes.specs.Suffixes.{endOf}
 use Rattle.lines.proofs.Lengths.{refused-short}
 use Rattle.lines.proofs.write_refused.Statement.{statement}
 use Rattle.lines.proofs.write_refused.Tie as tie
 
-slice-aggregate-spell-end : tie.Need-slice-aggregate-spell-end
-slice-aggregate-spell-end c = search needs
+-- the end in the array
+end : (c : tie.After-write-end) → take (c .write-end .result) (c .write-end .last .1 .0) ≡ endOf (c .before .before .before .args .follows)
+end c = puts-front (writes-puts 8 (c .write-end .ensures .1) (search needs) (c .write-end .ensures .0))
 
-spell-end-requires : tie.Need-spell-end-requires
-spell-end-requires c κs = search needs
+most : (c : tie.After-write-end) → c .write-end .result ≤ length (c .write-end .last .1 .0)
+most c =
+    let p = writes-puts 8 (c .write-end .ensures .1) (search needs) (c .write-end .ensures .0) in
+    let l : c .write-end .result ≤ 8 = omega (arith, p .place, c .write-end .ensures .1) in
+    search (needs, l)
+
+slice-aggregate-write-end : tie.Need-slice-aggregate-write-end
+slice-aggregate-write-end c = search needs
+
+write-end-requires : tie.Need-write-end-requires
+write-end-requires c κs = search needs
 
 slice-aggregate-write-one : tie.Need-slice-aggregate-write-one
 slice-aggregate-write-one c = search needs
 
 array-share-prefix-end : tie.Need-array-share-prefix-end
-array-share-prefix-end c = search needs
+array-share-prefix-end c = most (c .before .before)
 
 slice-aggregate-write-one-2 : tie.Need-slice-aggregate-write-one-2
 slice-aggregate-write-one-2 c =
     let spelled = c .before .before .before in
-    sym (length-take-le (spelled .spell-end .result) (spelled .spell-end .last .1 .0) (search needs))
+    sym (length-take-le (spelled .write-end .result) (spelled .write-end .last .1 .0) (most spelled))
 
 write-one-requires : tie.Need-write-one-requires
 write-one-requires c κs = search needs
@@ -35,18 +50,17 @@ returns c =
     let written = c .before .before in
     let spelled = written .before .before .before .before .before in
     let entered = spelled .before .before .before in
-    let e = spelled .spell-end .ensures .1 in
     (
-      rw e at (written .write-one .ensures),
-      refused-short (entered .args .follows) (spelled .spell-end .last .1 .0) (spelled .spell-end .result) (spelled .spell-end .ensures .0) (search needs) e (entered .args .number) (search needs),
+      rw (end spelled) at (written .write-one .ensures),
+      refused-short (entered .args .follows) (spelled .write-end .ensures .1) (entered .args .number) (search needs),
     )
 
 pub write-refused-spec : {M : Type 1} → statement M
 write-refused-spec =
     tie.close
     (tie.spec
-    slice-aggregate-spell-end
-    spell-end-requires
+    slice-aggregate-write-end
+    write-end-requires
     slice-aggregate-write-one
     array-share-prefix-end
     slice-aggregate-write-one-2

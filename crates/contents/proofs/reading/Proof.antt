@@ -1,4 +1,4 @@
--- `records::reading` meets its contract. The invariant: the first i confidences stand in the array, and zeros after them.
+-- `contents::reading` meets its contract. The invariant: the first i confidences stand in the array, and zeros after them.
 -- Assumes nothing.
 use mathlib.Core.Path.{_≡_, refl, sym, ap, _∙_}
 use mathlib.Core.List.{List}
@@ -12,10 +12,10 @@ use lib.Seq.{paste, drop-drop}
 use mir.Syntax.{w32}
 use mir.Val.{toZ, ofZ}
 use mir.Facts.{toZ-ofZ}
 use Rattle.records.specs.Records.{confidenceOf, confidencesOf}
-use Rattle.records.proofs.Readings.{length-confidences, confidence-at, fill-one, fill-all}
-use Rattle.records.proofs.reading.Statement.{statement}
-use Rattle.records.proofs.reading.Tie as tie
+use Rattle.contents.proofs.Readings.{length-confidences, confidence-at, fill-one, fill-all}
+use Rattle.contents.proofs.reading.Statement.{statement}
+use Rattle.contents.proofs.reading.Tie as tie
 
 abbrev zeros : List ℤ
 zeros = replicate 24 (pos 0)

@@ -24,14 +24,6 @@ confidence-at (suc n) zero bytes h = refl
 confidence-at (suc n) (suc i) bytes h =
     let e : 4 + 4 * i ≡ 4 * suc i = omega arith in
     confidence-at n i (drop 4 bytes) (omega arith) ∙ ap confidenceOf (drop-drop (4 * i) 4 bytes ∙ ap (λ (k : ℕ). drop k bytes) e)
-
-pub confidences-front : (n : ℕ) (front rest : List ℕ) → 4 * n ≤ length front → confidencesOf n (front ++ rest) ≡ confidencesOf n front
-unfolding confidencesOf
-confidences-front zero front rest h = refl
-confidences-front (suc n) front rest h =
-    let l : 4 ≤ length front = omega arith in
-    let m : 4 * n ≤ length (drop 4 front) = simp length-drop (omega arith) in
-    rw (take-append-le 4 front rest l, drop-append-le 4 front rest l, confidences-front n (drop 4 front) rest m)
 
 four-front :
     (l : List ℕ) → 4 ≤ length l → getD l 0 0 * 0x100_0000 + getD l 1 0 * 0x1_0000 + getD l 2 0 * 0x100 + getD l 3 0 ≡ wordOf (take 4 l)

@@ -1,4 +1,4 @@
--- `records::twos_complement` meets its contract: from 2^31 on the number less 2^32 is -1 less what is missing to 2^32 - 1.
+-- `contents::twos_complement` meets its contract: from 2^31 on the number less 2^32 is -1 less what is missing to 2^32 - 1.
 -- Assumes nothing.
 use mathlib.Core.Path.{_≡_, sym, _∙_}
 use Prim.Native.Nat.{ℕ, suc, _+_, _-_, _≤_, _<_, _^_}
@@ -10,9 +10,9 @@ use mir.Syntax.{w32}
 use mir.Val.{SFits, toZ, ofZ}
 use mir.Facts.{toZ-ofZ, toZ-pos}
 use Rattle.signed.proofs.Parts.{sub-parts, ints}
 use Rattle.records.specs.Records.{twosComplement}
-use Rattle.records.proofs.twos_complement.Statement.{statement}
-use Rattle.records.proofs.twos_complement.Tie as tie
+use Rattle.contents.proofs.twos_complement.Statement.{statement}
+use Rattle.contents.proofs.twos_complement.Tie as tie
 
 opposite : (v : ℕ) → negsuc 0 -ℤ pos v ≡ negsuc v
 opposite v = omega (ints, sub-parts (negsuc 0) (pos v))

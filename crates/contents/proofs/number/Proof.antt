@@ -1,13 +1,13 @@
--- `records::number` meets its contract: the record's length tells its kind, and a new one has its number after its mark.
+-- `contents::number` meets its contract: the record's length tells its kind, and a new one has its number after its mark.
 -- Assumes nothing.
 use mathlib.Core.Path.{sym, ap, _∙_}
 use mathlib.Core.Bool.{true}
 use native.Mathlib.Omega.{arith}
 use borrow.Author.Needs.{needs}
 use Rattle.records.specs.Records.{numberOf, standsAnswer}
 use Rattle.records.proofs.Standing.{Told, whole-told, told-room, told-old, told-new, last-ended, last-stopped}
-use Rattle.records.proofs.number.Statement.{statement}
-use Rattle.records.proofs.number.Tie as tie
+use Rattle.contents.proofs.number.Statement.{statement}
+use Rattle.contents.proofs.number.Tie as tie
 
 -- the record that is told
 told : (c : tie.After-next)

@@ -1,12 +1,12 @@
--- `records::confidence` meets its contract: the four bytes make the word that is read as two's complement.
+-- `contents::confidence` meets its contract: the four bytes make the word that is read as two's complement.
 -- Assumes nothing.
 use mathlib.Core.Path.{ap, _∙_}
 use borrow.Author.Needs.{needs, sfits-of}
 use mir.Facts.{toZ-ofZ}
 use Rattle.records.specs.Records.{twosComplement}
-use Rattle.records.proofs.Readings.{four-word}
-use Rattle.records.proofs.confidence.Statement.{statement}
-use Rattle.records.proofs.confidence.Tie as tie
+use Rattle.contents.proofs.Readings.{four-word}
+use Rattle.contents.proofs.confidence.Statement.{statement}
+use Rattle.contents.proofs.confidence.Tie as tie
 
 shared-slice-read-wide : tie.Need-shared-slice-read-wide
 shared-slice-read-wide c = search needs

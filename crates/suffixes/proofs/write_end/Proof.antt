@@ -1,30 +1,35 @@
--- `lines::spell_end` meets its contract: each text has room, so it is written whole.
+-- `suffixes::write_end` meets its contract: each arm writes the end of its case, which is short.
 -- Assumes nothing.
-use mathlib.Core.Path.{_≡_, sym, ap, _∙_}
-use mathlib.Core.List.{List, _++_}
+use mathlib.Core.Path.{_≡_, sym, ap}
+use mathlib.Core.List.{List}
 use Prim.Native.Nat.{ℕ, _≤_, _<_, _^_}
+use native.Mathlib.Nat.{lt-of-lt-of-le}
 use native.Mathlib.Omega.{arith}
 use borrow.Author.Needs.{needs}
 use lib.Dec.{lit≤}
-use lib.ListN.{length, take, length-append}
+use lib.ListN.{length, length-append}
 use Rattle.sequence.specs.declared.kinds.Follows.{Follows}
-use Rattle.texts.specs.Texts.{lineFeed}
+use Rattle.texts.specs.Texts.{decimal}
 use Rattle.texts.specs.Buffers.{Writes}
-use Rattle.texts.proofs.Buffers.{writes-puts, puts-front}
-use Rattle.lines.specs.Lines.{suffix}
-use Rattle.lines.proofs.Lengths.{lost-short}
-use Rattle.lines.proofs.spell_end.Statement.{statement}
-use Rattle.lines.proofs.spell_end.Tie as tie
+use Rattle.texts.proofs.Decimal.{decimal-length}
+use Rattle.suffixes.specs.Suffixes.{endOf, longestEnd}
+use Rattle.suffixes.proofs.write_end.Statement.{statement}
+use Rattle.suffixes.proofs.write_end.Tie as tie
 
--- a text that has room in eight bytes
-spelled :
-    (follows : Follows) {text before after : List ℕ} {next : ℕ}
-    → length before ≡ 8
-    → text ≡ suffix follows ++ lineFeed
-    → length text ≤ 8
-    → Writes text before 0 after next
-    → (next ≤ 8) × (take next after ≡ suffix follows ++ lineFeed)
-spelled follows h e l w = let p = writes-puts 8 l (omega arith) w in (omega (arith, p .place, l), puts-front p ∙ e)
+ended :
+    (follows : Follows) {text before after : List ℕ} {at next : ℕ}
+    → text ≡ endOf follows
+    → length text ≤ longestEnd
+    → Writes text before at after next
+    → Writes (endOf follows) before at after next × (length (endOf follows) ≤ longestEnd)
+ended follows e l w = (rw e at w, rw e at l)
+
+-- a count of 16 bits has at most five digits
+digits : (n : ℕ) → n < 2 ^ 16 → length (decimal n) ≤ 5
+digits n h = decimal-length 5 n (lit≤ tt) (lt-of-lt-of-le h (lit≤ tt))
+
+small : (c : tie.After-known-told) → c .before .follows .given .0 .0 < 2 ^ 16
+small c = search needs
 
 enum-told : tie.Need-enum-told
 enum-told c = search needs
@@ -75,11 +80,7 @@ returns : tie.Need-returns
 returns c =
     let written = c .before .before in
     let matched = written .before .before .before in
-    let entered = matched .before .before .before in
-    spelled (entered .args .follows) (entered .pre) (sym (ap (λ (f : Follows). suffix f ++ lineFeed) (matched .enum-told .given .1))) (lit≤ tt) (written .write-text .ensures)
-
-small : (c : tie.After-known-told) → c .before .follows .given .0 .0 < 2 ^ 16
-small c = search needs
+    ended (matched .before .before .before .args .follows) (sym (ap endOf (matched .enum-told .given .1))) (lit≤ tt) (written .write-text .ensures)
 
 same-length-2 : tie.Need-same-length-2
 same-length-2 c = search needs
@@ -89,10 +90,8 @@ returns-2 c =
     let written = c .before .before in
     let known = written .before .before .before .before in
     let matched = known .before in
-    let entered = matched .before .before .before in
-    let n = matched .follows .given .0 .0 in
-    spelled (entered .args .follows) (entered .pre) (sym (ap (λ (f : Follows). suffix f ++ lineFeed) (matched .follows .given .1)))
-    (simp length-append (omega (arith, lost-short n (small known))))
+    ended (matched .before .before .before .args .follows) (sym (ap endOf (matched .follows .given .1)))
+    (simp length-append (omega (arith, digits (matched .follows .given .0 .0) (small known))))
     (written .write-one .ensures)
 
 same-length-3 : tie.Need-same-length-3
@@ -102,8 +101,7 @@ returns-3 : tie.Need-returns-3
 returns-3 c =
     let written = c .before .before in
     let matched = written .before .before .before in
-    let entered = matched .before .before .before in
-    spelled (entered .args .follows) (entered .pre) (sym (ap (λ (f : Follows). suffix f ++ lineFeed) (matched .enum-told2 .given .1))) (lit≤ tt) (written .write-text2 .ensures)
+    ended (matched .before .before .before .args .follows) (sym (ap endOf (matched .enum-told2 .given .1))) (lit≤ tt) (written .write-text2 .ensures)
 
 same-length-4 : tie.Need-same-length-4
 same-length-4 c = search needs
@@ -112,11 +110,10 @@ returns-4 : tie.Need-returns-4
 returns-4 c =
     let written = c .before .before in
     let matched = written .before .before .before in
-    let entered = matched .before .before .before in
-    spelled (entered .args .follows) (entered .pre) (sym (ap (λ (f : Follows). suffix f ++ lineFeed) (matched .enum-told3 .given .1))) (lit≤ tt) (written .write-text3 .ensures)
+    ended (matched .before .before .before .args .follows) (sym (ap endOf (matched .enum-told3 .given .1))) (lit≤ tt) (written .write-text3 .ensures)
 
-pub spell-end-spec : {M : Type 1} → statement M
-spell-end-spec =
+pub write-end-spec : {M : Type 1} → statement M
+write-end-spec =
     tie.close
     (tie.spec
     enum-told

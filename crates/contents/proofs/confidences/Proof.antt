@@ -1,13 +1,13 @@
--- `records::confidences` meets its contract: where a whole record is told its bytes are there, and elsewhere zeros are asked for.
+-- `contents::confidences` meets its contract: where a whole record is told its bytes are there, and elsewhere zeros are asked for.
 -- Assumes nothing.
 use mathlib.Core.Path.{sym, ap, _∙_}
 use mathlib.Core.Bool.{true}
 use native.Mathlib.Omega.{arith}
 use borrow.Author.Needs.{needs}
 use Rattle.records.specs.Records.{readingOf, standsAnswer}
 use Rattle.records.proofs.Standing.{Told, whole-told, told-room, told-reading, last-ended, last-stopped}
-use Rattle.records.proofs.confidences.Statement.{statement}
-use Rattle.records.proofs.confidences.Tie as tie
+use Rattle.contents.proofs.confidences.Statement.{statement}
+use Rattle.contents.proofs.confidences.Tie as tie
 
 -- the record that is told
 told : (c : tie.After-next)

@@ -1,11 +1,11 @@
--- `records::number_from` meets its contract: the two bytes make the number.
+-- `contents::number_from` meets its contract: the two bytes make the number.
 -- Assumes nothing.
 use mathlib.Core.Path.{ap}
 use borrow.Author.Needs.{needs}
 use Rattle.sequence.specs.declared.kinds.Number.the-variants.{Some}
-use Rattle.records.proofs.Readings.{two-word}
-use Rattle.records.proofs.number_from.Statement.{statement}
-use Rattle.records.proofs.number_from.Tie as tie
+use Rattle.contents.proofs.Readings.{two-word}
+use Rattle.contents.proofs.number_from.Statement.{statement}
+use Rattle.contents.proofs.number_from.Tie as tie
 
 shared-slice-read-wide : tie.Need-shared-slice-read-wide
 shared-slice-read-wide c = search needs
