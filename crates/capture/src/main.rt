@@ -10,8 +10,8 @@ ghost use Rattle.run.specs.Runs.{Room};
 use libc::STDERR_FILENO;
 use libc::STDIN_FILENO;
 use libc::STDOUT_FILENO;
-use run::kinds::Turned;
 use sequence::kinds::Number;
+use turns::kinds::Turned;
 
 // No offset comes near the end of 64 bits; this says so to the proof.
 const FARTHEST: u64 = 0xFFFF_FFFF_FFFE_0000;
@@ -76,19 +76,25 @@ fn write_last(held: &[u8], count: usize, previous: Number, offset: u64, text: &m
     requires { ⌜ count ≤ length (now held) ⌝ }
     requires { ⌜ Room offset count (length (now text)) ⌝ }
 {
-    let outcome = run::run(&held[..count], previous, offset, text);
+    let outcome = run::run(&held[..count], true, previous, offset, text);
     let put = outcome.put;
     write_text(text, put);
 }
 
 // A turn, and its text written; one whose text can't be written is the last, as one that stopped.
-fn write_turn(held: &mut [u8], count: usize, previous: Number, offset: u64, text: &mut [u8]) -> Turned
+fn write_turn(
+    held: &mut [u8],
+    count: usize,
+    previous: Number,
+    offset: u64,
+    text: &mut [u8],
+) -> Turned
     requires { ⌜ count ≤ length (now held) ⌝ }
     requires { ⌜ Room offset count (length (now text)) ⌝ }
     ensures { λ r. ⌜ r .next + r .left ≡ offset + count ⌝ }
     ensures { λ r. ⌜ (r .outcome .stopped ≡ false → r .left < newLength) ⌝ }
 {
-    let mut t = run::turn(held, count, previous, offset, text);
+    let mut t = turns::turn(held, count, previous, offset, text);
     let outcome = t.outcome;
     let put = outcome.put;
     if !write_text(text, put) {

@@ -21,7 +21,13 @@ pub fn write_header(out: &mut [u8], at: usize) -> usize
 }
 
 // As in "0 8" (rule 13.3).
-pub fn write_accepted(message: u32, reserve: u64, follows: Follows, out: &mut [u8], at: usize) -> usize
+pub fn write_accepted(
+    message: u32,
+    reserve: u64,
+    follows: Follows,
+    out: &mut [u8],
+    at: usize,
+) -> usize
     ensures { λ r. ⌜ Writes (acceptedLine message reserve follows) (now (out .entry)) at (now (out .exit)) r ⌝ }
     ensures { λ _. ⌜ length (acceptedLine message reserve follows) ≤ longest ⌝ }
 {

@@ -1,4 +1,4 @@
--- Whether there is room can be told; so two outcomes that the promise of a run or of a turn allows are equal, with the buffers that they leave.
+-- Whether there is room can be told; so two outcomes that the promise of a run allows are equal, with the buffer that they leave.
 -- Assumes nothing.
 use mathlib.Core.Path.{_≡_, refl, sym, ap, _∙_}
 use mathlib.Core.Bool.{Bool, true, false}
@@ -17,17 +17,15 @@ use Rattle.records.specs.Records.{Record, newLength, recordLength, Standing, en
 use Rattle.records.specs.Capture.{Telling, runAt, runIn, Ending, ending}
 use Rattle.records.proofs.Running.{end-near, left-short}
 use Rattle.answers.proofs.Decoding.{a-decoder}
-use Rattle.pieces.proofs.Pieces.{keeps-once}
 use Rattle.run.specs.declared.kinds.Outcome.{Outcome}
-use Rattle.run.specs.declared.kinds.Turned.{Turned}
 use Rattle.run.specs.Output.{lines}
-use Rattle.run.specs.Runs.{Room, Runs, unrun, RunRule, TurnRoom, TurnRule}
+use Rattle.run.specs.Runs.{Room, Runs, unrun, RunRule}
 
-data Decided (P : Type 0) : Type 0 where
+pub data Decided (P : Type 0) : Type 0 where
   yes : P → Decided P
   no : (P → ⊥) → Decided P
 
-room-decided : (offset n buffer : ℕ) → Decided (Room offset n buffer)
+pub room-decided : (offset n buffer : ℕ) → Decided (Room offset n buffer)
 room-decided offset n buffer = cases (leb (n + longest) buffer) (ltb (offset + n) (2 ^ 64)) refl refl
   where
     cases : (a b : Bool) → leb (n + longest) buffer ≡ a → ltb (offset + n) (2 ^ 64) ≡ b → Decided (Room offset n buffer)
@@ -35,22 +33,11 @@ room-decided offset n buffer = cases (leb (n + longest) buffer) (ltb (offset + n
     cases true false e f = no (λ R. omega (arith, ltb-false (offset + n) (2 ^ 64) f, R .offsets))
     cases false b e f = no (λ R. omega (arith, leb-false (n + longest) buffer e, R .lines))
 
-turn-decided : (offset count held buffer : ℕ) → Decided (TurnRoom offset count held buffer)
-turn-decided offset count held buffer = cases (leb count held) refl (room-decided offset count buffer)
-  where
-    cases : (a : Bool) → leb count held ≡ a → Decided (Room offset count buffer) → Decided (TurnRoom offset count held buffer)
-    cases true e (yes R) = yes (record { bytes = leb-true count held e; text = R })
-    cases true e (no R) = no (λ T. R (T .text))
-    cases false e R = no (λ T. omega (arith, leb-false count held e, T .bytes))
-
 -- an outcome by its fields
 outcome-same : {r s : Outcome} → r .put ≡ s .put → r .stopped ≡ s .stopped → r .through ≡ s .through → r .previous ≡ s .previous → r ≡ s
 outcome-same p q t n = λ i. record { put = p i; stopped = q i; through = t i; previous = n i }
 
-turned-same : {r s : Turned} → r .outcome ≡ s .outcome → r .left ≡ s .left → r .next ≡ s .next → r ≡ s
-turned-same p q e = λ i. record { outcome = p i; left = q i; next = e i }
-
-runs-once :
+pub runs-once :
     {last : Bool} {previous : Number} {offset : ℕ} {bytes before after later : List ℕ} {r s : Outcome}
     → Runs last previous offset bytes before after r
     → Runs last previous offset bytes before later s
@@ -60,8 +47,7 @@ runs-once {offset = offset} {r = r} {s} R S =
     let q = S .text (a-decoder .0) (a-decoder .1) in
     let e = R .ended ∙ sym (S .ended) in
     let far : offset + r .through ≡ offset + s .through = ap (λ (e : Ending). e .offset) e in
-    let through : r .through ≡ s .through = omega (arith, far) in
-    (
+    let through : r .through ≡ s .through = omega (arith, far) in (
       p .buffer ∙ sym (q .buffer),
       outcome-same (p .place ∙ sym (q .place)) (ap (λ (e : Ending). e .stopped) e) through (ap (λ (e : Ending). e .previous) e),
     )
@@ -76,24 +62,6 @@ run-once {offset = offset} {bytes} {before} {after} {later} {r} {s} R S = cases 
     cases : Decided (Room offset (length bytes) (length before)) → (after ≡ later) × (r ≡ s)
     cases (yes room) = runs-once (R .room room) (S .room room)
     cases (no none) = let (a, p) = R .none none in let (b, q) = S .none none in (a ∙ sym b, p ∙ sym q)
-
-pub turn-once :
-    {previous : Number} {offset count : ℕ} {held before after later kept rest : List ℕ} {r s : Turned}
-    → TurnRule previous offset count held before after kept r
-    → TurnRule previous offset count held before later rest s
-    → (after ≡ later) × (kept ≡ rest) × (r ≡ s)
-turn-once {offset = offset} {count} {held} {before} {after} {later} {kept} {rest} {r} {s} R S =
-    cases (turn-decided offset count (length held) (length before))
-  where
-    cases : Decided (TurnRoom offset count (length held) (length before)) → (after ≡ later) × (kept ≡ rest) × (r ≡ s)
-    cases (yes room) =
-        let T = R .room room in
-        let U = S .room room in
-        let (e, o) = runs-once (T .ran) (U .ran) in
-        let through = ap (λ (o : Outcome). o .through) o in
-        let (k, l) = keeps-once (T .keeps) (rw (sym through) at (U .keeps)) in
-        (e, k, turned-same o l (T .next ∙ ap (λ (n : ℕ). offset + n) through ∙ sym (U .next)))
-    cases (no none) = let (a, b, p) = R .none none in let (c, d, q) = S .none none in (a ∙ sym c, b ∙ sym d, p ∙ sym q)
 
 -- a run that stops tells it: so no run that has room ends as one that has none
 module _ (decode : List ℤ → Answer (ℕ × ℕ)) (last : Bool) where

@@ -1,4 +1,3 @@
-pub mod Pieces
 pub mod Old
 pub mod Upto
 pub mod Decided

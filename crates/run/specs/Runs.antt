@@ -1,20 +1,18 @@
--- Rules 12.9 and 13.1 over a piece of a capture: what the run over some bytes leaves, and a turn over the bytes that are held.
+-- Rules 12.9 and 13.1 over a piece of a capture: what the run over some bytes leaves.
 use mathlib.Core.Path.{_≡_}
 use mathlib.Core.Bool.{Bool, true, false}
 use mathlib.Core.List.{List}
 use Prim.Native.Nat.{ℕ, _+_, _≤_, _<_, _^_}
 use lib.IntN.{ℤ}
-use lib.ListN.{length, take}
+use lib.ListN.{length}
 use Rattle.golay.specs.Answers.{Answer}
 use Rattle.lines.specs.Lines.{longest}
 use Rattle.texts.specs.Buffers.{Puts}
 use Rattle.sequence.specs.declared.kinds.Number.{Number}
 use Rattle.records.specs.Capture.{runFrom, Ending, ending}
 use Rattle.answers.specs.Decoding.{Decoder}
-use Rattle.pieces.specs.Pieces.{Keeps}
 use Rattle.run.specs.Output.{linesFrom}
 use Rattle.run.specs.declared.kinds.Outcome.{Outcome}
-use Rattle.run.specs.declared.kinds.Turned.{Turned}
 
 -- room for the text of n bytes that begin at an offset: a record has more bytes than a line, so a buffer of as many bytes and one line more
 -- has it; and no offset passes 64 bits
@@ -46,21 +44,3 @@ unrun previous = record { put = 0; stopped = true; through = 0; previous = previ
 pub record RunRule (last : Bool) (previous : Number) (offset : ℕ) (bytes before after : List ℕ) (r : Outcome) : Type 0 where
   pub room : Room offset (length bytes) (length before) → Runs last previous offset bytes before after r
   pub none : (Room offset (length bytes) (length before) → ⊥) → (after ≡ before) × (r ≡ unrun previous)
-
--- one turn over the first bytes that are held, which more may follow: the run over them; then what it did not come through is kept, from its
--- own offset on
-pub record Turns (previous : Number) (offset count : ℕ) (held before after kept : List ℕ) (r : Turned) : Type 0 where
-  pub ran : Runs false previous offset (take count held) before after (r .outcome)
-  pub keeps : Keeps (r .outcome .through) count held kept (r .left)
-  pub next : r .next ≡ offset + r .outcome .through
-
--- room for a turn: the bytes are there, and their text has room
-pub record TurnRoom (offset count held buffer : ℕ) : Type 0 where
-  pub bytes : count ≤ held
-  pub text : Room offset count buffer
-
--- a turn over any bytes: without room nothing is written or moved, and all of them are left
-pub record TurnRule (previous : Number) (offset count : ℕ) (held before after kept : List ℕ) (r : Turned) : Type 0 where
-  pub room : TurnRoom offset count (length held) (length before) → Turns previous offset count held before after kept r
-  pub none : (TurnRoom offset count (length held) (length before) → ⊥)
-      → (after ≡ before) × (kept ≡ held) × (r ≡ record { outcome = unrun previous; left = count; next = offset })

@@ -1,7 +1,6 @@
-// What a run and a turn answer.
+// What a run answers.
 ghost use mathlib.Core.Path.{_≡_};
 ghost use Rattle.run.specs.Runs as runs;
-
 use sequence::kinds::Number;
 
 // How many bytes of text the run put into the buffer; whether it stopped: with 9 or 10, or, with nothing put, for want of room; how many bytes
@@ -13,15 +12,8 @@ pub struct Outcome {
     pub previous: Number,
 }
 
-// How many bytes are left after a turn, and the offset of the first of them.
-pub struct Turned {
-    pub outcome: Outcome,
-    pub left: usize,
-    pub next: u64,
-}
-
 // The outcome of a run that has no room.
-pub(crate) fn unrun(previous: Number) -> Outcome
+pub fn unrun(previous: Number) -> Outcome
     ensures { λ r. ⌜ r ≡ runs.unrun previous ⌝ }
 {
     Outcome {

@@ -82,10 +82,16 @@ pub fn write_one(word: &[u8], n: u64, end: &[u8], out: &mut [u8], at: usize) -> 
 }
 
 // A word, a number, a word, a number and what the line ends with.
-pub fn write_two(word: &[u8], m: u64, between: &[u8], n: u64, end: &[u8], out: &mut [u8], at: usize) -> usize
-    ensures {
-        λ r. ⌜ Writes (lineOfTwo (now (word .entry)) m (now (between .entry)) n (now (end .entry))) (now (out .entry)) at (now (out .exit)) r ⌝
-    }
+pub fn write_two(
+    word: &[u8],
+    m: u64,
+    between: &[u8],
+    n: u64,
+    end: &[u8],
+    out: &mut [u8],
+    at: usize,
+) -> usize
+    ensures { λ r. ⌜ Writes (lineOfTwo (now (word .entry)) m (now (between .entry)) n (now (end .entry))) (now (out .entry)) at (now (out .exit)) r ⌝ }
 {
     let mut first = [0u8; 20];
     let mut second = [0u8; 20];

@@ -29,7 +29,7 @@ write-text-requires : tie.Need-write-text-requires
 write-text-requires c κs =
     let ran = c .before .before .before in
     let text = ran .before .before .before .before .before .args .text .now in
-    let same : length (ran .run .last .1 .1 .1 .0) ≡ length text = search needs in
+    let same : length (ran .run .last .1 .1 .1 .1 .0) ≡ length text = search needs in
     omega (arith, run-fits (ran .run .ensures .room (room ran)), same)
 
 same-length : tie.Need-same-length

@@ -8,7 +8,7 @@ use borrow.Author.Needs.{needs}
 use lib.ListN.{length}
 use lib.Seq.{length-take-le}
 use Rattle.records.specs.Records.{newLength}
-use Rattle.run.specs.Runs.{Turns}
+use Rattle.turns.specs.Turns.{Turns}
 use Rattle.run.proofs.Decided.{run-fits, run-near, run-left}
 use Rattle.capture.proofs.write_turn.Statement.{statement}
 use Rattle.capture.proofs.write_turn.Tie as tie

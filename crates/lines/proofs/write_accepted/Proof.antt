@@ -52,8 +52,7 @@ returns : tie.Need-returns
 returns c =
     let written = c .before .before in
     let spelled = written .before .before .before .before .before .before in
-    let entered = spelled .before .before .before in
-    (
+    let entered = spelled .before .before .before in (
       rw (end spelled) at (written .write-two .ensures),
       accepted-short (entered .args .follows) (spelled .write-end .ensures .1) (entered .args .message) (entered .args .reserve) (search needs) (search needs),
     )

@@ -49,8 +49,7 @@ returns : tie.Need-returns
 returns c =
     let written = c .before .before in
     let spelled = written .before .before .before .before .before in
-    let entered = spelled .before .before .before in
-    (
+    let entered = spelled .before .before .before in (
       rw (end spelled) at (written .write-one .ensures),
       refused-short (entered .args .follows) (spelled .write-end .ensures .1) (entered .args .number) (search needs),
     )
