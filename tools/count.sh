@@ -32,8 +32,12 @@ alone() {
             awk -v call="$1" '$NF == call && (before == "main" || before == "run_one") { if (start) print NR - start; start = NR } { before = $NF }'
     done | sort -n
 }
-# records N: what the whole capture program executes for the first n records of the decent sample
+# records KIND N: what the whole capture program executes for n records: old ones, the first of the decent sample, or new ones, those after the
+# 60 old records of the numbered sample
 records() {
-    head -c $((98 * $1)) samples/decent.capture >target/bench.capture
+    case $1 in
+    old) head -c $((98 * $2)) samples/decent.capture ;;
+    new) tail -c +$((98 * 60 + 1)) samples/numbered.capture | head -c $((100 * $2)) ;;
+    esac >target/bench.capture
     executed target/kit/ld-linux-x86-64.so.2 --library-path target/kit target/bin/capture target/bench.capture
 }

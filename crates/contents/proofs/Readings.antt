@@ -1,14 +1,14 @@
--- The confidences of some bytes, one by one, and that bytes after them change nothing.
+-- The confidences of some bytes, one by one, and the words that four bytes and two hold.
 -- Assumes nothing.
 use mathlib.Core.Path.{_≡_, refl, sym, ap, _∙_}
-use mathlib.Core.List.{List, [], _∷_, _++_, append-nil}
+use mathlib.Core.List.{List, [], _∷_, append-nil}
 use Prim.Native.Nat.{ℕ, zero, suc, _+_, _*_, _≤_, _<_}
 use native.Mathlib.Nat.{add-zero, zero-add}
 use native.Mathlib.Numerals.{add-one}
 use native.Mathlib.Omega.{arith}
 use lib.IntN.{ℤ, pos}
 use lib.ListN.{length, getD, set, take, drop, length-drop}
-use lib.Seq.{paste, paste-suc, take-length, drop-length, drop-drop, getD-drop, take-append-le, drop-append-le}
+use lib.Seq.{paste, paste-suc, take-length, drop-length, drop-drop, getD-drop}
 use Rattle.golay.specs.Bytes.{wordOf}
 use Rattle.records.specs.Records.{confidenceOf, confidencesOf}
 

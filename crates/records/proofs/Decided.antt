@@ -1,4 +1,4 @@
--- Two answers that a promise allows are equal. The promises of `number` and `confidences` are equations, which say so themselves.
+-- Two answers that the promise of `stands_at` allows are equal.
 -- Assumes nothing.
 use mathlib.Core.Path.{_≡_, refl, ap}
 use mathlib.Core.Bool.{Bool}

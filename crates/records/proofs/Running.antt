@@ -107,7 +107,7 @@ module _ {A : Type 0} (t : Telling A) (last : Bool) where
         ∙ (λ i. t .atRecord previous (heldBy s) (runFrom t last (previousAfter previous (numberOf s)) (place i) (later i)))
         ∙ ap
         (λ (u : Standing Record). t .atRecord previous (heldBy u) (runFrom t last (previousAfter previous (numberOf u)) (offset + next) (drop next bytes)))
-        (w .0 ∙ sym (piece-whole last (standsAt bytes at) (w .0)))
+        stands
 
 -- no run comes farther than its bytes
 end-within :

@@ -7,13 +7,11 @@ use Prim.Native.Nat.{ℕ, zero, suc, _+_, _-_, _*_, _≤_, _<_}
 use native.Mathlib.Nat.{add-zero}
 use native.Mathlib.Omega.{arith}
 use lib.Dec.{leb, eqb, lit<}
-use lib.IntN.{ℤ}
 use lib.ListN.{length, getD, take, drop, length-append, length-drop}
 use lib.Seq.{getD-drop, drop-drop, take-append-le, drop-append-le}
 use borrow.Author.Tests.{le-leb, lt-leb, leb-true, leb-false, eq-eqb, ne-eqb}
 use Rattle.code.specs.Code.{positions}
 use Rattle.golay.specs.Bytes.{wordOf}
-use Rattle.sequence.specs.declared.kinds.Number.{Number}
 use Rattle.sequence.specs.declared.kinds.Number.the-variants.{None, Some}
 use Rattle.records.specs.Records.{isOldMark, isNewMark, Record, oldLength, newLength, lengthWith, recordLength, confidencesOf, Standing, ended, stopped, whole, unfinished, standing, standsAt, inPiece, nextFrom, numberOf, readingOf}
 

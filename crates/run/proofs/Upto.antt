@@ -23,7 +23,6 @@ use Rattle.records.proofs.Standing.{whole-told, told-room}
 use Rattle.records.proofs.Running.{told-ended, told-stopped, told-whole}
 use Rattle.answers.specs.Decoding.{Decoder, Tells}
 use Rattle.answers.proofs.Decoding.{a-decoder}
-use Rattle.run.specs.declared.kinds.Outcome.{Outcome}
 use Rattle.run.specs.Output.{lines, linesFrom}
 use Rattle.run.specs.Runs.{Room, Runs}
 

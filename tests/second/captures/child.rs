@@ -2,7 +2,7 @@
 
 use super::trials::Trial;
 use std::fs::File;
-use std::io::{self, ErrorKind, Write};
+use std::io::{self, ErrorKind, Read, Write};
 use std::iter;
 use std::process::{Child, ChildStdin, Command, Output, Stdio};
 use std::thread;
@@ -28,9 +28,10 @@ pub struct Pieces {
     pub next: usize,
 }
 
-/// The pause after the first piece lets the program start and read it before the rest comes.
-const FIRST_PAUSE: Duration = Duration::from_millis(30);
-const PAUSE: Duration = Duration::from_millis(1);
+/// Lets the program, which waits, read a piece before the next one comes.
+const PAUSE: Duration = Duration::from_millis(2);
+/// The bytes of the header (13.2), which the program writes before it reads.
+const HEADER: u64 = 16;
 
 pub struct Written {
     pub output: Vec<u8>,
@@ -93,34 +94,38 @@ fn started(program: &[&str], input: Input, file: &str) -> io::Result<Child> {
         .spawn()
 }
 
-/// Feeds a pipe while the output is taken, so that neither side waits for the other for ever.
+/// Feeds a pipe while the output is taken, so that neither side waits for the other for ever; not
+/// before the header has come, since the pieces would gather while the program starts.
 fn ended(mut child: Child, trial: &Trial) -> io::Result<Output> {
     let pieces = match trial.input {
         Input::Pipe(pieces) => pieces,
         _ => return child.wait_with_output(),
     };
     let pipe = child.stdin.take().expect("a pipe");
+    let mut written = child.stdout.take().expect("a pipe");
+    let mut output = Vec::new();
+    written.by_ref().take(HEADER).read_to_end(&mut output)?;
     thread::scope(|scope| {
         let feeding = scope.spawn(|| feed(pipe, pieces, &trial.bytes));
-        let output = child.wait_with_output();
+        written.read_to_end(&mut output)?;
+        let ended = child.wait_with_output()?;
         feeding.join().expect("the thread that feeds")?;
-        output
+        Ok(Output {
+            stdout: output,
+            ..ended
+        })
     })
 }
 
 fn feed(mut pipe: ChildStdin, pieces: Pieces, bytes: &[u8]) -> io::Result<()> {
     let (first, rest) = bytes.split_at(pieces.first.min(bytes.len()));
-    let pauses = iter::once(FIRST_PAUSE).chain(iter::repeat(PAUSE));
-    for (piece, pause) in iter::once(first)
-        .chain(rest.chunks(pieces.next))
-        .zip(pauses)
-    {
+    for piece in iter::once(first).chain(rest.chunks(pieces.next)) {
         match pipe.write_all(piece) {
             // The program need not read on once the run has stopped.
             Err(reason) if reason.kind() == ErrorKind::BrokenPipe => return Ok(()),
             written => written?,
         }
-        thread::sleep(pause);
+        thread::sleep(PAUSE);
     }
     Ok(())
 }

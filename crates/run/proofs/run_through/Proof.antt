@@ -7,9 +7,8 @@ use native.Mathlib.Omega.{arith}
 use borrow.Author.Needs.{needs}
 use lib.ListN.{length}
 use Rattle.sequence.specs.Sequence.{followsFrom, previousAfter}
-use Rattle.records.specs.Records.{whole, stopped, standsAt, inPiece, nextFrom, numberOf, readingOf, standsAnswer}
+use Rattle.records.specs.Records.{whole, stopped, standsAt, inPiece, nextFrom, standsAnswer}
 use Rattle.records.proofs.Standing.{whole-told, told-room}
-use Rattle.answers.specs.Decoding.{Tells}
 use Rattle.run.proofs.Upto.{Upto, up-start, up-record, up-ended, up-stopped}
 use Rattle.run.proofs.run_through.Statement.{statement}
 use Rattle.run.proofs.run_through.Tie as tie
