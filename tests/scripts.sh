@@ -261,4 +261,4 @@ counts_are_the_same() {
     say "here '$here', and in another environment '$there'"
     return 1
 }
-some_counts() { executed target/bench run encode decent 0 4 && records 2; }
+some_counts() { executed target/bench run encode decent 0 4 && records old 2 && records new 2; }

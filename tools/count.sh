@@ -32,12 +32,19 @@ alone() {
             awk -v call="$1" '$NF == call && (before == "main" || before == "run_one") { if (start) print NR - start; start = NR } { before = $NF }'
     done | sort -n
 }
-# records KIND N: what the whole capture program executes for n records: old ones, the first of the decent sample, or new ones, those after the
-# 60 old records of the numbered sample
+# longest N: new records with the longest lines that tell a loss: message 4,095 (0xEEEE87) at full size, and 32,767 lost before each
+longest() {
+    word=nnnpnnnpnnnpnnnpnppppnnn
+    reading=${word//n/\\200\\0\\0\\1} reading=${reading//p/\\177\\377\\377\\377}
+    for ((i = 0; i < $1; i++)); do printf "ID\\$((i % 2 * 2))00\\0$reading"; done
+}
+# records KIND N: what the whole capture program executes for n records: old ones, the first of the decent sample; new ones, those after the 60
+# old records of the numbered sample; or those with the longest lines
 records() {
     case $1 in
     old) head -c $((98 * $2)) samples/decent.capture ;;
     new) tail -c +$((98 * 60 + 1)) samples/numbered.capture | head -c $((100 * $2)) ;;
+    longest) longest "$2" ;;
     esac >target/bench.capture
     executed target/kit/ld-linux-x86-64.so.2 --library-path target/kit target/bin/capture target/bench.capture
 }
