@@ -10,11 +10,15 @@ ghost use Rattle.run.specs.Runs.{Room};
 use libc::STDERR_FILENO;
 use libc::STDIN_FILENO;
 use libc::STDOUT_FILENO;
+use lines::LONGEST;
 use sequence::kinds::Number;
 use turns::kinds::Turned;
 
 // No offset comes near the end of 64 bits; this says so to the proof.
 const FARTHEST: u64 = 0xFFFF_FFFF_FFFE_0000;
+
+// As many bytes as are held, and one line more.
+const TEXT: usize = 65_536 + LONGEST;
 
 const MEBIBYTE: u64 = 0x10_0000;
 
@@ -145,8 +149,7 @@ fn decode(fd: i32, name: &[u8]) {
     if write_header() {
         let shows = shows_progress();
         let mut held = io::large_buffer();
-        // as many bytes as are held, and one line more
-        let mut text = [0u8; 65575];
+        let mut text = [0u8; TEXT];
         decode_pieces(fd, name, shows, &mut held, &mut text);
         clear_progress(shows);
     }

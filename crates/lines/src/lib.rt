@@ -5,6 +5,7 @@ ghost use lib.ListN.{length};
 ghost use Rattle.texts.specs.Buffers.{Writes};
 ghost use Rattle.lines.specs.Lines.{header, acceptedLine, refusedLine, stoppedLine, longest};
 use sequence::kinds::Follows;
+use suffixes::LONGEST_END;
 use suffixes::write_end;
 use texts::write_one;
 use texts::write_text;
@@ -31,7 +32,7 @@ pub fn write_accepted(
     ensures { λ r. ⌜ Writes (acceptedLine message reserve follows) (now (out .entry)) at (now (out .exit)) r ⌝ }
     ensures { λ _. ⌜ length (acceptedLine message reserve follows) ≤ longest ⌝ }
 {
-    let mut end = [0u8; 8];
+    let mut end = [0u8; LONGEST_END];
     let k = write_end(follows, &mut end, 0);
     write_two(b"", message as u64, b" ", reserve, &end[..k], out, at)
 }
@@ -41,7 +42,7 @@ pub fn write_refused(number: u8, follows: Follows, out: &mut [u8], at: usize) ->
     ensures { λ r. ⌜ Writes (refusedLine number follows) (now (out .entry)) at (now (out .exit)) r ⌝ }
     ensures { λ _. ⌜ length (refusedLine number follows) ≤ longest ⌝ }
 {
-    let mut end = [0u8; 8];
+    let mut end = [0u8; LONGEST_END];
     let k = write_end(follows, &mut end, 0);
     write_one(b"refused ", number as u64, &end[..k], out, at)
 }

@@ -2,25 +2,22 @@
 -- Assumes nothing.
 use mathlib.Core.Path.{_≡_, sym}
 use Prim.Native.Nat.{_≤_}
-use native.Mathlib.Omega.{arith}
 use borrow.Author.Needs.{needs}
 use lib.ListN.{length, take}
 use lib.Seq.{length-take-le}
-use Rattle.texts.proofs.Buffers.{writes-puts, puts-front}
-use Rattle.suffixes.specs.Suffixes.{endOf}
+use Rattle.suffixes.specs.Suffixes.{endOf, longestEnd}
+use Rattle.lines.proofs.Ends.{end-whole}
 use Rattle.lines.proofs.Lengths.{accepted-short}
 use Rattle.lines.proofs.write_accepted.Statement.{statement}
 use Rattle.lines.proofs.write_accepted.Tie as tie
 
 -- the end in the array
-end : (c : tie.After-write-end) → take (c .write-end .result) (c .write-end .last .1 .0) ≡ endOf (c .before .before .before .args .follows)
-end c = puts-front (writes-puts 8 (c .write-end .ensures .1) (search needs) (c .write-end .ensures .0))
+whole : (c : tie.After-write-end)
+    → (take (c .write-end .result) (c .write-end .last .1 .0) ≡ endOf (c .before .before .before .args .follows)) × (c .write-end .result ≤ longestEnd)
+whole c = end-whole (c .write-end .ensures .1) (search needs) (c .write-end .ensures .0)
 
-most : (c : tie.After-write-end) → c .write-end .result ≤ length (c .write-end .last .1 .0)
-most c =
-    let p = writes-puts 8 (c .write-end .ensures .1) (search needs) (c .write-end .ensures .0) in
-    let l : c .write-end .result ≤ 8 = omega (arith, p .place, c .write-end .ensures .1) in
-    search (needs, l)
+within : (c : tie.After-write-end) → c .write-end .result ≤ length (c .write-end .last .1 .0)
+within c = let l = whole c .1 in search (needs, l)
 
 slice-aggregate-write-end : tie.Need-slice-aggregate-write-end
 slice-aggregate-write-end c = search needs
@@ -35,12 +32,12 @@ slice-aggregate-write-two-2 : tie.Need-slice-aggregate-write-two-2
 slice-aggregate-write-two-2 c = search needs
 
 array-share-prefix-end : tie.Need-array-share-prefix-end
-array-share-prefix-end c = most (c .before .before .before)
+array-share-prefix-end c = within (c .before .before .before)
 
 slice-aggregate-write-two-3 : tie.Need-slice-aggregate-write-two-3
 slice-aggregate-write-two-3 c =
     let spelled = c .before .before .before .before in
-    sym (length-take-le (spelled .write-end .result) (spelled .write-end .last .1 .0) (most spelled))
+    sym (length-take-le (spelled .write-end .result) (spelled .write-end .last .1 .0) (within spelled))
 
 write-two-requires : tie.Need-write-two-requires
 write-two-requires c κs = search needs
@@ -53,7 +50,7 @@ returns c =
     let written = c .before .before in
     let spelled = written .before .before .before .before .before .before in
     let entered = spelled .before .before .before in (
-      rw (end spelled) at (written .write-two .ensures),
+      rw (whole spelled .0) at (written .write-two .ensures),
       accepted-short (entered .args .follows) (spelled .write-end .ensures .1) (entered .args .message) (entered .args .reserve) (search needs) (search needs),
     )
 

@@ -2,25 +2,22 @@
 -- Assumes nothing.
 use mathlib.Core.Path.{_≡_, sym}
 use Prim.Native.Nat.{_≤_}
-use native.Mathlib.Omega.{arith}
 use borrow.Author.Needs.{needs}
 use lib.ListN.{length, take}
 use lib.Seq.{length-take-le}
-use Rattle.texts.proofs.Buffers.{writes-puts, puts-front}
-use Rattle.suffixes.specs.Suffixes.{endOf}
+use Rattle.suffixes.specs.Suffixes.{endOf, longestEnd}
+use Rattle.lines.proofs.Ends.{end-whole}
 use Rattle.lines.proofs.Lengths.{refused-short}
 use Rattle.lines.proofs.write_refused.Statement.{statement}
 use Rattle.lines.proofs.write_refused.Tie as tie
 
 -- the end in the array
-end : (c : tie.After-write-end) → take (c .write-end .result) (c .write-end .last .1 .0) ≡ endOf (c .before .before .before .args .follows)
-end c = puts-front (writes-puts 8 (c .write-end .ensures .1) (search needs) (c .write-end .ensures .0))
+whole : (c : tie.After-write-end)
+    → (take (c .write-end .result) (c .write-end .last .1 .0) ≡ endOf (c .before .before .before .args .follows)) × (c .write-end .result ≤ longestEnd)
+whole c = end-whole (c .write-end .ensures .1) (search needs) (c .write-end .ensures .0)
 
-most : (c : tie.After-write-end) → c .write-end .result ≤ length (c .write-end .last .1 .0)
-most c =
-    let p = writes-puts 8 (c .write-end .ensures .1) (search needs) (c .write-end .ensures .0) in
-    let l : c .write-end .result ≤ 8 = omega (arith, p .place, c .write-end .ensures .1) in
-    search (needs, l)
+within : (c : tie.After-write-end) → c .write-end .result ≤ length (c .write-end .last .1 .0)
+within c = let l = whole c .1 in search (needs, l)
 
 slice-aggregate-write-end : tie.Need-slice-aggregate-write-end
 slice-aggregate-write-end c = search needs
@@ -32,12 +29,12 @@ slice-aggregate-write-one : tie.Need-slice-aggregate-write-one
 slice-aggregate-write-one c = search needs
 
 array-share-prefix-end : tie.Need-array-share-prefix-end
-array-share-prefix-end c = most (c .before .before)
+array-share-prefix-end c = within (c .before .before)
 
 slice-aggregate-write-one-2 : tie.Need-slice-aggregate-write-one-2
 slice-aggregate-write-one-2 c =
     let spelled = c .before .before .before in
-    sym (length-take-le (spelled .write-end .result) (spelled .write-end .last .1 .0) (most spelled))
+    sym (length-take-le (spelled .write-end .result) (spelled .write-end .last .1 .0) (within spelled))
 
 write-one-requires : tie.Need-write-one-requires
 write-one-requires c κs = search needs
@@ -50,7 +47,7 @@ returns c =
     let written = c .before .before in
     let spelled = written .before .before .before .before .before in
     let entered = spelled .before .before .before in (
-      rw (end spelled) at (written .write-one .ensures),
+      rw (whole spelled .0) at (written .write-one .ensures),
       refused-short (entered .args .follows) (spelled .write-end .ensures .1) (entered .args .number) (search needs),
     )
 
