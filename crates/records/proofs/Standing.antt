@@ -258,13 +258,13 @@ module _ (bytes : List ℕ) (at : ℕ) where
   pub last-stopped : {n : ℕ} → nextFrom at (inPiece true (standsAt bytes at)) ≡ stopped n → standsAt bytes at ≡ stopped n
   last-stopped e = sym (in-last (standsAt bytes at)) ∙ next-stopped at (inPiece true (standsAt bytes at)) e
 
--- a whole record that is told: of either kind, with the bytes that it takes
-pub data Told (bytes : List ℕ) (at next : ℕ) : Type 0 where
-  old : next ≡ at + oldLength → next ≤ length bytes → standsAt bytes at ≡ whole (oldAfter (drop (at + 2) bytes)) → Told bytes at next
-  new : next ≡ at + newLength → next ≤ length bytes → standsAt bytes at ≡ whole (newAfter (drop (at + 2) bytes)) → Told bytes at next
+-- the record at a place takes the bytes up to the next: of either kind, and what it holds
+pub data Takes (bytes : List ℕ) (at next : ℕ) : Type 0 where
+  old : next ≡ at + oldLength → next ≤ length bytes → standsAt bytes at ≡ whole (oldAfter (drop (at + 2) bytes)) → Takes bytes at next
+  new : next ≡ at + newLength → next ≤ length bytes → standsAt bytes at ≡ whole (newAfter (drop (at + 2) bytes)) → Takes bytes at next
 
-pub whole-told : (last : Bool) (bytes : List ℕ) (at : ℕ) {next : ℕ} → nextFrom at (inPiece last (standsAt bytes at)) ≡ whole next → Told bytes at next
-whole-told last bytes at {next} e =
+pub whole-takes : (last : Bool) (bytes : List ℕ) (at : ℕ) {next : ℕ} → nextFrom at (inPiece last (standsAt bytes at)) ≡ whole next → Takes bytes at next
+whole-takes last bytes at {next} e =
     let w = next-whole at (inPiece last (standsAt bytes at)) e in
     let s = piece-whole last (standsAt bytes at) (w .0) in
     cases (whole-known (drop at bytes) s) s (w .1)
@@ -272,7 +272,7 @@ whole-told last bytes at {next} e =
     long : length (drop at bytes) ≡ length bytes - at
     long = length-drop at bytes
 
-    cases : {r : Record} → Known (drop at bytes) r → standsAt bytes at ≡ whole r → next ≡ at + recordLength r → Told bytes at next
+    cases : {r : Record} → Known (drop at bytes) r → standsAt bytes at ≡ whole r → next ≡ at + recordLength r → Takes bytes at next
     cases (old l e) s n =
         let m = n ∙ ap (λ (r : Record). at + recordLength r) e in
         old m (omega (arith, m, long)) (s ∙ ap whole e ∙ ap (λ (l : List ℕ). whole (oldAfter l)) (drop-drop 2 at bytes))
@@ -281,23 +281,23 @@ whole-told last bytes at {next} e =
         new m (omega (arith, m, long)) (s ∙ ap whole e ∙ ap (λ (l : List ℕ). whole (newAfter l)) (drop-drop 2 at bytes))
 
 module _ {bytes : List ℕ} {at next : ℕ} where
-  pub told-room : Told bytes at next → (at + oldLength ≤ next) × (next ≤ length bytes)
-  told-room (old n l e) = (omega (arith, n), l)
-  told-room (new n l e) = (omega (arith, n), l)
+  pub takes-room : Takes bytes at next → (at + oldLength ≤ next) × (next ≤ length bytes)
+  takes-room (old n l e) = (omega (arith, n), l)
+  takes-room (new n l e) = (omega (arith, n), l)
 
-  pub told-reading : Told bytes at next → readingOf (standsAt bytes at) ≡ confidencesOf positions (drop (next - 96) bytes)
-  told-reading (old n l e) =
+  pub takes-reading : Takes bytes at next → readingOf (standsAt bytes at) ≡ confidencesOf positions (drop (next - 96) bytes)
+  takes-reading (old n l e) =
       let m : at + 2 ≡ next - 96 = omega (arith, n) in
       ap readingOf e ∙ ap (λ (k : ℕ). confidencesOf positions (drop k bytes)) m
-  told-reading (new n l e) =
+  takes-reading (new n l e) =
       let m : at + 2 + 2 ≡ next - 96 = omega (arith, n) in
       ap readingOf e ∙ ap (confidencesOf positions) (drop-drop 2 (at + 2) bytes ∙ ap (λ (k : ℕ). drop k bytes) m)
 
   -- which kind it is shows by its length
-  pub told-old : Told bytes at next → next - at ≡ oldLength → numberOf (standsAt bytes at) ≡ None
-  told-old (old n l e) h = ap numberOf e
-  told-old (new n l e) h = let z : ⊥ = omega (arith, n, h) in absurd z
+  pub takes-old : Takes bytes at next → next - at ≡ oldLength → numberOf (standsAt bytes at) ≡ None
+  takes-old (old n l e) h = ap numberOf e
+  takes-old (new n l e) h = let z : ⊥ = omega (arith, n, h) in absurd z
 
-  pub told-new : Told bytes at next → (next - at ≡ oldLength → ⊥) → numberOf (standsAt bytes at) ≡ Some (wordOf (take 2 (drop (at + 2) bytes)))
-  told-new (old n l e) h = absurd (h (omega (arith, n)))
-  told-new (new n l e) h = ap numberOf e
+  pub takes-new : Takes bytes at next → (next - at ≡ oldLength → ⊥) → numberOf (standsAt bytes at) ≡ Some (wordOf (take 2 (drop (at + 2) bytes)))
+  takes-new (old n l e) h = absurd (h (omega (arith, n)))
+  takes-new (new n l e) h = ap numberOf e

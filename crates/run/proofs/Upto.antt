@@ -19,7 +19,7 @@ use Rattle.lines.specs.Lines.{answerLine, stoppedLine, longest}
 use Rattle.texts.specs.Buffers.{put, Puts, Writes}
 use Rattle.texts.proofs.Buffers.{puts-then, puts-text, writes-puts}
 use Rattle.lines.proofs.Lengths.{stopped-short}
-use Rattle.records.proofs.Standing.{whole-told, told-room}
+use Rattle.records.proofs.Standing.{whole-takes, takes-room}
 use Rattle.records.proofs.Running.{told-ended, told-stopped, told-whole}
 use Rattle.answers.specs.Decoding.{Decoder, Tells}
 use Rattle.answers.proofs.Decoding.{a-decoder}
@@ -75,7 +75,7 @@ module _ (last : Bool) (first : Number) (offset : ℕ) (bytes before : List ℕ)
     up-record {later} {next} {end} e same T =
         let s = standsAt bytes at in
         let number = previousAfter previous (numberOf s) in
-        let taken = told-room (whole-told last bytes at e) in
+        let taken = takes-room (whole-takes last bytes at e) in
         let line = line-at T in
         record {
           within = taken .1;

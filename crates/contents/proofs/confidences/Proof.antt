@@ -1,22 +1,22 @@
--- `contents::confidences` meets its contract: where a whole record is told its bytes are there, and elsewhere zeros are asked for.
+-- `contents::confidences` meets its contract: where a whole record stands its bytes are there, and elsewhere zeros are asked for.
 -- Assumes nothing.
 use mathlib.Core.Path.{sym, ap, _∙_}
 use mathlib.Core.Bool.{true}
 use native.Mathlib.Omega.{arith}
 use borrow.Author.Needs.{needs}
 use Rattle.records.specs.Records.{readingOf, standsAnswer}
-use Rattle.records.proofs.Standing.{Told, whole-told, told-room, told-reading, last-ended, last-stopped}
+use Rattle.records.proofs.Standing.{Takes, whole-takes, takes-room, takes-reading, last-ended, last-stopped}
 use Rattle.contents.proofs.confidences.Statement.{statement}
 use Rattle.contents.proofs.confidences.Tie as tie
 
--- the record that is told
-told : (c : tie.After-next)
+-- the record that stands at the place
+taken : (c : tie.After-next)
     → let args = c .before .before .before .before .args in
-    Told (args .bytes .now) (args .at) (c .next .given .0 .0)
-told c =
+    Takes (args .bytes .now) (args .at) (c .next .given .0 .0)
+taken c =
     let called = c .before .before in
     let args = called .before .before .args in
-    whole-told true (args .bytes .now) (args .at) (sym (called .stands-at .ensures) ∙ ap standsAnswer (c .next .given .1))
+    whole-takes true (args .bytes .now) (args .at) (sym (called .stands-at .ensures) ∙ ap standsAnswer (c .next .given .1))
 
 stands-at-requires : tie.Need-stands-at-requires
 stands-at-requires c κs = search needs
@@ -25,10 +25,10 @@ enum-known-next : tie.Need-enum-known-next
 enum-known-next c = search needs
 
 sub-reading : tie.Need-sub-reading
-sub-reading c = omega (arith, told-room (told (c .before)) .0)
+sub-reading c = omega (arith, takes-room (taken (c .before)) .0)
 
 reading-requires : tie.Need-reading-requires
-reading-requires c κs = let room = told-room (told (c .before)) in omega (arith, room .0, room .1)
+reading-requires c κs = let room = takes-room (taken (c .before)) in omega (arith, room .0, room .1)
 
 enum-told : tie.Need-enum-told
 enum-told c = search needs
@@ -37,7 +37,7 @@ enum-told-2 : tie.Need-enum-told-2
 enum-told-2 c = search needs
 
 returns : tie.Need-returns
-returns c = c .reading .ensures ∙ sym (told-reading (told (c .before .before)))
+returns c = c .reading .ensures ∙ sym (takes-reading (taken (c .before .before)))
 
 returns-2 : tie.Need-returns-2
 returns-2 c =

@@ -5,18 +5,18 @@ use mathlib.Core.Bool.{true}
 use native.Mathlib.Omega.{arith}
 use borrow.Author.Needs.{needs}
 use Rattle.records.specs.Records.{numberOf, standsAnswer}
-use Rattle.records.proofs.Standing.{Told, whole-told, told-room, told-old, told-new, last-ended, last-stopped}
+use Rattle.records.proofs.Standing.{Takes, whole-takes, takes-room, takes-old, takes-new, last-ended, last-stopped}
 use Rattle.contents.proofs.number.Statement.{statement}
 use Rattle.contents.proofs.number.Tie as tie
 
--- the record that is told
-told : (c : tie.After-next)
+-- the record that stands at the place
+taken : (c : tie.After-next)
     → let args = c .before .before .before .before .args in
-    Told (args .bytes .now) (args .at) (c .next .given .0 .0)
-told c =
+    Takes (args .bytes .now) (args .at) (c .next .given .0 .0)
+taken c =
     let called = c .before .before in
     let args = called .before .before .args in
-    whole-told true (args .bytes .now) (args .at) (sym (called .stands-at .ensures) ∙ ap standsAnswer (c .next .given .1))
+    whole-takes true (args .bytes .now) (args .at) (sym (called .stands-at .ensures) ∙ ap standsAnswer (c .next .given .1))
 
 stands-at-requires : tie.Need-stands-at-requires
 stands-at-requires c κs = search needs
@@ -25,16 +25,16 @@ enum-known-next : tie.Need-enum-known-next
 enum-known-next c = search needs
 
 sub-if1 : tie.Need-sub-if1
-sub-if1 c = omega (arith, told-room (told (c .before)) .0)
+sub-if1 c = omega (arith, takes-room (taken (c .before)) .0)
 
 returns : tie.Need-returns
-returns c = sym (told-old (told (c .before .before)) (c .if1 .taken))
+returns c = sym (takes-old (taken (c .before .before)) (c .if1 .taken))
 
 add-number-from : tie.Need-add-number-from
-add-number-from c = let room = told-room (told (c .before .before)) in omega (arith, room .0, room .1)
+add-number-from c = let room = takes-room (taken (c .before .before)) in omega (arith, room .0, room .1)
 
 number-from-requires : tie.Need-number-from-requires
-number-from-requires c κs = let room = told-room (told (c .before .before)) in omega (arith, room .0, room .1)
+number-from-requires c κs = let room = takes-room (taken (c .before .before)) in omega (arith, room .0, room .1)
 
 enum-told : tie.Need-enum-told
 enum-told c = search needs
@@ -43,7 +43,7 @@ enum-told-2 : tie.Need-enum-told-2
 enum-told-2 c = search needs
 
 returns-2 : tie.Need-returns-2
-returns-2 c = let tested = c .before in c .number-from .ensures ∙ sym (told-new (told (tested .before .before)) (tested .if1 .left))
+returns-2 c = let tested = c .before in c .number-from .ensures ∙ sym (takes-new (taken (tested .before .before)) (tested .if1 .left))
 
 returns-3 : tie.Need-returns-3
 returns-3 c =

@@ -12,12 +12,12 @@ use Rattle.lines.proofs.write_refused.Statement.{statement}
 use Rattle.lines.proofs.write_refused.Tie as tie
 
 -- the end in the array
-whole : (c : tie.After-write-end)
+end-there : (c : tie.After-write-end)
     → (take (c .write-end .result) (c .write-end .last .1 .0) ≡ endOf (c .before .before .before .args .follows)) × (c .write-end .result ≤ longestEnd)
-whole c = end-whole (c .write-end .ensures .1) (search needs) (c .write-end .ensures .0)
+end-there c = end-whole (c .write-end .ensures .1) (search needs) (c .write-end .ensures .0)
 
 within : (c : tie.After-write-end) → c .write-end .result ≤ length (c .write-end .last .1 .0)
-within c = let l = whole c .1 in search (needs, l)
+within c = let l = end-there c .1 in search (needs, l)
 
 slice-aggregate-write-end : tie.Need-slice-aggregate-write-end
 slice-aggregate-write-end c = search needs
@@ -47,7 +47,7 @@ returns c =
     let written = c .before .before in
     let spelled = written .before .before .before .before .before in
     let entered = spelled .before .before .before in (
-      rw (whole spelled .0) at (written .write-one .ensures),
+      rw (end-there spelled .0) at (written .write-one .ensures),
       refused-short (entered .args .follows) (spelled .write-end .ensures .1) (entered .args .number) (search needs),
     )
 

@@ -8,7 +8,7 @@ use borrow.Author.Needs.{needs}
 use lib.ListN.{length}
 use Rattle.sequence.specs.Sequence.{followsFrom, previousAfter}
 use Rattle.records.specs.Records.{whole, stopped, standsAt, inPiece, nextFrom, standsAnswer}
-use Rattle.records.proofs.Standing.{whole-told, told-room}
+use Rattle.records.proofs.Standing.{whole-takes, takes-room}
 use Rattle.run.proofs.Upto.{Upto, up-start, up-record, up-ended, up-stopped}
 use Rattle.run.proofs.run_through.Statement.{statement}
 use Rattle.run.proofs.run_through.Tie as tie
@@ -58,7 +58,7 @@ loop-less c =
     let matched = c .before .before .before .before .before .before .before .before .before .before in
     let at-loop = matched .before .before .before in
     let args = at-loop .before .before .before .args in
-    let room = told-room (whole-told (args .last) (args .bytes .now) (at-loop .loop .at) (told matched)) in
+    let room = takes-room (whole-takes (args .last) (args .bytes .now) (at-loop .loop .at) (told matched)) in
     omega (arith, room .0, room .1)
 
 loop-again : tie.Need-loop-again Inv-loop μ-loop
