@@ -1,5 +1,5 @@
 // The line of a record. What it tells of the reading is what the soft decoder answers.
-ghost use Rattle.answers.specs.Decoding.{Tells};
+ghost use Rattle.answers.specs.Telling.{Tells};
 use sequence::kinds::Follows;
 use soft::kinds::SoftAnswer;
 

@@ -14,7 +14,7 @@ use Rattle.lines.specs.Lines.{header, answerLine, stoppedLine}
 use Rattle.records.specs.Records.{twosComplement, confidencesOf, standing}
 use Rattle.records.specs.Capture.{runIn}
 use Rattle.run.specs.Output.{output}
-use Rattle.answers.specs.Decoding.{messageAndReserve, Decoder}
+use Rattle.decoding.specs.Decoding.{messageAndReserve, Decoder}
 use Rattle.capture.specs.Cases.{worked, workedNumbers, cases, AllHold}
 
 module _ (decode : List ℤ → Answer (ℕ × ℕ)) where

@@ -18,8 +18,10 @@ use Rattle.quick.specs.Quick.{QuickRule}
 use Rattle.quick.proofs.Rules.{quick-once}
 use Rattle.receivers.specs.Calls.{Chooses}
 use Rattle.receivers.proofs.Decided.{choice-once}
-use Rattle.hands.specs.Hands.{HandsBack, HandsBackOne, HandsBackCandidates, itself}
-use Rattle.hands.proofs.Hands.{hands-decided, hands-one-decided, hands-candidates-decided}
+use Rattle.hands.specs.Hands.{HandsBack, HandsBackOne, itself}
+use Rattle.hands.proofs.Hands.{hands-decided, hands-one-decided}
+use Rattle.onwords.specs.Outputs.{HandsBackCandidates}
+use Rattle.onwords.proofs.Outputs.{hands-candidates-decided}
 
 -- what a promise of outputs before, outputs after and a status leaves open: nothing
 abbrev Decided : {M : Type 0} → (M → M → ℕ → Type 0) → Type 0

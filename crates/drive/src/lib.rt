@@ -7,8 +7,8 @@ ghost use Rattle.favours.specs.Calls.{columnFigureRule};
 ghost use Rattle.soft.specs.Calls.{ClassFigureRule, SoftRule};
 ghost use Rattle.quick.specs.Quick.{QuickRule};
 ghost use Rattle.receivers.specs.Calls.{Chooses};
-ghost use Rattle.hands.specs.Hands.{HandsBack, HandsBackOne, HandsBackCandidates, itself};
-ghost use Rattle.onwords.specs.Outputs.{finding, correction};
+ghost use Rattle.hands.specs.Hands.{HandsBack, HandsBackOne, itself};
+ghost use Rattle.onwords.specs.Outputs.{finding, correction, HandsBackCandidates};
 ghost use Rattle.onreadings.specs.Outputs.{values};
 
 #[no_mangle]

@@ -1,10 +1,11 @@
 -- Rule 11.1: the number of each reason, and when it applies.
 use Prim.Native.Nat.{ℕ}
 use Rattle.golay.specs.declared.kinds.Refusal.{Refusal}
-use Rattle.golay.specs.declared.kinds.Refusal.the-variants.{WrongLength, MostNegative, MessageAbove, WordAbove, NotCodeword, Tied, DistanceFour, NotDistanceFour, NoMark, CutShort, ClassAbove, NoColumn}
+use Rattle.golay.specs.declared.kinds.Refusal.the-variants.{WrongLength, MostNegative, MessageAbove, WordAbove, NotCodeword, Tied, DistanceFour, NotDistanceFour, NoMark, CutShort, ClassAbove, CountFull, NoColumn}
 
 abbrev pub number : Refusal → ℕ
--- a reading has other than 24 confidences, a buffer for a codeword other than 3 bytes, or the slots for candidates are other than 6
+-- a reading has other than 24 confidences, a buffer for a codeword other than 3 bytes, the slots for candidates are other than 6, or a table
+-- has other than 4,096 counts
 number WrongLength = 1
 -- some confidence equals -2,147,483,648
 number MostNegative = 2
@@ -26,5 +27,7 @@ number NoMark = 9
 number CutShort = 10
 -- a class number exceeds 127
 number ClassAbove = 11
+-- to count a reading would take a count or the total of reserves past its end (18.3)
+number CountFull = 12
 -- a column number is not 1 to 6
 number NoColumn = 18

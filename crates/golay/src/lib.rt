@@ -24,7 +24,8 @@ use rows::syndrome_of;
 // A word's positions; a reading has a confidence for each.
 pub const POSITIONS: usize = 24;
 
-const MESSAGES: u32 = 4_096;
+// A message is a number below this.
+pub const MESSAGES: u32 = 4_096;
 
 // A word is a number below this.
 pub const WORDS: u32 = 16_777_216;
@@ -52,6 +53,7 @@ pub fn refusal_number(reason: Refusal) -> u8
         Refusal::NoMark => 9,
         Refusal::CutShort => 10,
         Refusal::ClassAbove => 11,
+        Refusal::CountFull => 12,
         Refusal::NoColumn => 18,
     }
 }

@@ -1,19 +1,14 @@
 -- What a call for C hands back: its status tells an answer from a refusal, it follows from what the call below answered, and two returns that a
 -- promise allows are equal.
 -- Assumes nothing.
-use mathlib.Core.Path.{_≡_, refl, sym, ap, _∙_}
-use mathlib.Core.List.{List}
+use mathlib.Core.Path.{_≡_, refl, sym, _∙_}
 use Prim.Native.Nat.{ℕ, _<_}
 use lib.Dec.{lit<}
 use Rattle.golay.specs.declared.kinds.Refusal.{Refusal}
-use Rattle.golay.specs.declared.kinds.Refusal.the-variants.{WrongLength, MostNegative, MessageAbove, WordAbove, NotCodeword, Tied, DistanceFour, NotDistanceFour, NoMark, CutShort, ClassAbove, NoColumn}
+use Rattle.golay.specs.declared.kinds.Refusal.the-variants.{WrongLength, MostNegative, MessageAbove, WordAbove, NotCodeword, Tied, DistanceFour, NotDistanceFour, NoMark, CutShort, ClassAbove, CountFull, NoColumn}
 use Rattle.golay.specs.Refusals.{number}
 use Rattle.golay.specs.Answers.{Answer, accepted, refused}
-use Rattle.bytewise.specs.Answers.{lent}
-use Rattle.bytewise.specs.Bytes.{bytesOf}
-use Rattle.bytewise.specs.Calls.{writeBytesRule, WritesBytes}
-use Rattle.candidates.proofs.Decided.{candidates-once, slots-once}
-use Rattle.hands.specs.Hands.{HandsBack, HandsBackOne, HandsBackCandidates, returned, output}
+use Rattle.hands.specs.Hands.{HandsBack, HandsBackOne}
 
 -- no refusal has the number 0
 number-above-zero : (reason : Refusal) → 0 < number reason
@@ -28,6 +23,7 @@ number-above-zero NotDistanceFour = lit< tt
 number-above-zero NoMark = lit< tt
 number-above-zero CutShort = lit< tt
 number-above-zero ClassAbove = lit< tt
+number-above-zero CountFull = lit< tt
 number-above-zero NoColumn = lit< tt
 
 -- Rule 11.7: a call that answers returns 0, and one that refuses its refusal's number, which is above 0
@@ -49,22 +45,6 @@ module _ {A M : Type 0} {answer : Answer A} {made : A → M} {before : M} where
   pub hands-refusal : {n : ℕ} → refused n ≡ answer → HandsBack answer made before before n
   hands-refusal e = rw (← e) (record { status-is = refl; output-is = refl })
 
--- the byte writer's own promise, with its status
-module _ (word : ℕ) (before after : List ℕ) where
-  kept : (answer : Answer (Unit {0})) → lent answer before (bytesOf word) ≡ output (λ x. bytesOf word) answer before
-  kept (accepted x) = refl
-  kept (refused n) = refl
-
-  pub hands-bytes :
-      {answer : Answer (Unit {0})} {status : ℕ}
-      → WritesBytes word before answer after
-      → status ≡ returned answer
-      → HandsBack (writeBytesRule word before) (λ x. bytesOf word) before after status
-  hands-bytes {answer} p e = record {
-    status-is = e ∙ ap returned (p .answered);
-    output-is = p .buffer ∙ kept answer ∙ ap (λ (a : Answer (Unit {0})). output (λ x. bytesOf word) a before) (p .answered);
-  }
-
 -- two returns that a promise allows are equal, and so is what they leave
 pub hands-decided :
     {A M : Type 0} {answer : Answer A} {made : A → M} {before after later : M} {status other : ℕ}
@@ -83,11 +63,3 @@ pub hands-one-decided :
 hands-one-decided once p q =
     let e = once (p .answer) (q .answer) (p .allowed) (q .allowed) in
     hands-decided (rw e at (p .handed)) (q .handed)
-
-pub hands-candidates-decided :
-    {word : ℕ} {before after later : List ℕ} {status other : ℕ}
-    → HandsBackCandidates word before after status
-    → HandsBackCandidates word before later other
-    → (status ≡ other) × (after ≡ later)
-hands-candidates-decided p q =
-    (p .status-is ∙ ap returned (candidates-once (p .writes) (q .writes)) ∙ sym (q .status-is), slots-once (p .writes) (q .writes))

@@ -1,9 +1,7 @@
 -- Rules 11.5 and 11.7: a call returns 0 where it answers, else the refusal's number, and writes its outputs only where it answers.
 use mathlib.Core.Path.{_≡_}
-use mathlib.Core.List.{List}
 use Prim.Native.Nat.{ℕ}
 use Rattle.golay.specs.Answers.{Answer, accepted, refused}
-use Rattle.candidates.specs.Calls.{WritesCandidates}
 
 module _ {A : Type 0} where
   -- Rule 11.7: 0 for an answer, which is no refusal's number, else the refusal's
@@ -30,9 +28,3 @@ pub record HandsBackOne {A M : Type 0} (Allowed : Answer A → Type 0) (made : A
 -- outputs that hold the values as they are
 abbrev pub itself : {A : Type 0} → A → A
 itself x = x
-
--- Rules 5.7, 5.8 and 11.5: the candidate call's status, and what the slots hold
-pub record HandsBackCandidates (word : ℕ) (before after : List ℕ) (status : ℕ) : Type 0 where
-  pub answer : Answer (Unit {0})
-  pub writes : WritesCandidates word before answer after
-  pub status-is : status ≡ returned answer

@@ -1,7 +1,7 @@
 -- Rules 12.2 to 12.4, 12.7 and 12.9: the run over a capture, or over a piece of it, as a function of its bytes, for whatever is told of its
 -- records. Its state at a record's start is the previous number and the offset.
 use mathlib.Core.Bool.{Bool, true, false}
-use mathlib.Core.List.{List}
+use mathlib.Core.List.{List, [], _++_}
 use Prim.Native.Nat.{ℕ, zero, suc, _+_}
 use lib.ListN.{length, drop}
 use Rattle.sequence.specs.declared.kinds.Number.{Number}
@@ -14,6 +14,14 @@ pub record Telling (A : Type 0) : Type 0 where
   pub atEnd : Number → ℕ → A
   pub atStop : ℕ → Number → ℕ → A
   pub atRecord : Number → Record → A → A
+
+-- a list: of what is told of each record, in their order, and of a stop
+abbrev pub listed : {X : Type 0} → (Number → Record → List X) → (ℕ → Number → ℕ → List X) → Telling (List X)
+listed ofRecord ofStop = record {
+  atEnd = λ previous offset. [];
+  atStop = ofStop;
+  atRecord = λ previous r later. ofRecord previous r ++ later;
+}
 
 -- over bytes that are the last of the input, or not
 module _ {A : Type 0} (t : Telling A) (last : Bool) where

@@ -16,7 +16,7 @@ use Rattle.sequence.specs.Sequence.{previousAfter}
 use Rattle.records.specs.Records.{Record, newLength, recordLength, Standing, ended, stopped, whole, standing, inPiece}
 use Rattle.records.specs.Capture.{Telling, runAt, runIn, Ending, ending}
 use Rattle.records.proofs.Running.{end-near, left-short}
-use Rattle.answers.proofs.Decoding.{a-decoder}
+use Rattle.decoding.proofs.Decoding.{a-decoder}
 use Rattle.run.specs.declared.kinds.Outcome.{Outcome}
 use Rattle.run.specs.Output.{lines}
 use Rattle.run.specs.Runs.{Room, Runs, unrun, RunRule}

@@ -21,8 +21,9 @@ use Rattle.texts.proofs.Buffers.{puts-then, puts-text, writes-puts}
 use Rattle.lines.proofs.Lengths.{stopped-short}
 use Rattle.records.proofs.Standing.{whole-takes, takes-room}
 use Rattle.records.proofs.Running.{told-ended, told-stopped, told-whole}
-use Rattle.answers.specs.Decoding.{Decoder, Tells}
-use Rattle.answers.proofs.Decoding.{a-decoder}
+use Rattle.decoding.specs.Decoding.{Decoder}
+use Rattle.decoding.proofs.Decoding.{a-decoder}
+use Rattle.answers.specs.Telling.{Tells}
 use Rattle.run.specs.Output.{lines, linesFrom}
 use Rattle.run.specs.Runs.{Room, Runs}
 

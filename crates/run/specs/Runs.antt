@@ -10,7 +10,7 @@ use Rattle.lines.specs.Lines.{longest}
 use Rattle.texts.specs.Buffers.{Puts}
 use Rattle.sequence.specs.declared.kinds.Number.{Number}
 use Rattle.records.specs.Capture.{runFrom, Ending, ending}
-use Rattle.answers.specs.Decoding.{Decoder}
+use Rattle.decoding.specs.Decoding.{Decoder}
 use Rattle.run.specs.Output.{linesFrom}
 use Rattle.run.specs.declared.kinds.Outcome.{Outcome}
 

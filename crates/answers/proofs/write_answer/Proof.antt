@@ -10,8 +10,8 @@ use mir.Facts.{toZ-ofZ}
 use Rattle.soft.specs.declared.kinds.SoftAnswer.{SoftAnswer}
 use Rattle.soft.specs.Answers.{softAnswer}
 use Rattle.lines.specs.Lines.{answerLine, acceptedLine, refusedLine}
-use Rattle.answers.specs.Decoding.{messageAndReserve}
-use Rattle.answers.proofs.Decoding.{answer-told}
+use Rattle.decoding.specs.Decoding.{messageAndReserve}
+use Rattle.answers.proofs.Telling.{answer-told}
 use Rattle.answers.proofs.write_answer.Statement.{statement}
 use Rattle.answers.proofs.write_answer.Tie as tie
 

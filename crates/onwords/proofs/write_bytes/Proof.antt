@@ -4,7 +4,7 @@ use mathlib.Core.Path.{ap, sym, _∙_}
 use borrow.Author.Needs.{needs}
 use Rattle.bytewise.specs.Answers.{writeBytesAnswer}
 use Rattle.hands.specs.Hands.{returned}
-use Rattle.hands.proofs.Hands.{hands-bytes}
+use Rattle.onwords.proofs.Outputs.{hands-bytes}
 use Rattle.onwords.proofs.write_bytes.Statement.{statement}
 use Rattle.onwords.proofs.write_bytes.Tie as tie
 

@@ -1,0 +1,4 @@
+pub mod Lists
+pub mod Rules
+pub mod History
+pub mod Decided
