@@ -2,6 +2,7 @@
 ghost use mathlib.Core.Path.{_≡_};
 ghost use Prim.Native.Nat.{_+_, _*_, _≤_};
 ghost use lib.ListN.{length};
+ghost use Rattle.texts.specs.Texts.{lineFeed, lineOf};
 ghost use Rattle.texts.specs.Buffers.{Puts, Writes};
 ghost use Rattle.tally.specs.Tally.{totals};
 ghost use Rattle.sheet.specs.Sheet.{messageLine, messageLines, countLines, smallestLine, reserveLines, longestMessage, longestCounts, longestReserves, SheetRule};
@@ -15,16 +16,24 @@ pub const MESSAGE_LINE: usize = 40;
 
 pub const OTHER_LINES: usize = 135;
 
+// As in "read 2".
+fn write_count(word: &[u8], n: u32, out: &mut [u8], at: usize) -> usize
+    ensures { λ r. ⌜ Writes (lineOf (now (word .entry)) n lineFeed) (now (out .entry)) at (now (out .exit)) r ⌝ }
+    ensures { λ _. ⌜ length (lineOf (now (word .entry)) n lineFeed) ≤ length (now (word .entry)) + 11 ⌝ }
+{
+    write_one(word, n as u64, b"\n", out, at)
+}
+
 // How many were read, accepted, refused with 2 and refused with 6.
 fn write_counts(t: Tally, out: &mut [u8], at: usize) -> usize
     requires { ⌜ at + longestCounts ≤ length (now out) ⌝ }
     ensures { λ r. ⌜ Puts (countLines t) (now (out .entry)) at (now (out .exit)) r ⌝ }
     ensures { λ r. ⌜ r ≤ at + longestCounts ⌝ }
 {
-    let p = write_one(b"read ", t.read as u64, b"\n", out, at);
-    let q = write_one(b"accepted ", t.accepted as u64, b"\n", out, p);
-    let s = write_one(b"refused 2 ", t.refused_2 as u64, b"\n", out, q);
-    write_one(b"refused 6 ", t.refused_6 as u64, b"\n", out, s)
+    let p = write_count(b"read ", t.read, out, at);
+    let q = write_count(b"accepted ", t.accepted, out, p);
+    let s = write_count(b"refused 2 ", t.refused_2, out, q);
+    write_count(b"refused 6 ", t.refused_6, out, s)
 }
 
 // As in "message 0 1"; no line where the count is 0.

@@ -3,7 +3,7 @@
 use mathlib.Core.Path.{_≡_, refl, ap}
 use mathlib.Core.Bool.{Bool, true, false, cond}
 use Prim.Native.Nat.{ℕ, zero, suc, _-_, _/_, _^_, _≤_, _<_}
-use native.Mathlib.Nat.{pow-le-pow-right, pow-suc, div-lt-iff-lt-mul, le-div-iff-mul-le}
+use native.Mathlib.Nat.{pow-le-pow-right, pow-suc, div-lt-iff-lt-mul, le-div-iff-mul-le, lt-of-lt-of-le}
 use native.Mathlib.Omega.{arith}
 use lib.Dec.{ltb, leb, lit<, lit≤}
 use lib.ListN.{length, length-append}
@@ -67,3 +67,7 @@ length-digits b (suc k) n = simp (length-append, length-digits b k (n / b)) (ome
 pub decimal-length : (w n : ℕ) → 1 ≤ w → n < 10 ^ w → length (decimal n) ≤ w
 unfolding decimal
 decimal-length w n h l = rw length-digits (fewest-within (decimal-fewest n) h l)
+
+-- and so a number of a width in bits
+pub decimal-short : (bits w n : ℕ) → 1 ≤ w → 2 ^ bits ≤ 10 ^ w → n < 2 ^ bits → length (decimal n) ≤ w
+decimal-short bits w n p h l = decimal-length w n p (lt-of-lt-of-le l h)
