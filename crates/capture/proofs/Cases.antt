@@ -1,20 +1,20 @@
 -- The worked captures give their lines, byte for byte, one by one over their table: every decoder answers their two readings as the soft
 -- decoder does.
 -- Assumes nothing.
-use mathlib.Core.Path.{_≡_, ap, _∙_}
+use mathlib.Core.Path.{_≡_}
 use mathlib.Core.List.{List, [], _++_}
 use Prim.Native.Nat.{ℕ}
 use lib.IntN.{ℤ}
 use Rattle.golay.specs.Answers.{Answer, accepted, refused}
 use Rattle.reading.specs.Cases.{allOnes, allZeros}
-use Rattle.soft.proofs.Cases.{ones-answered, zeros-refused}
 use Rattle.sequence.specs.declared.kinds.Follows.the-variants.{Unnumbered, Lost, Repeat, Late}
 use Rattle.texts.specs.Texts.{decimal}
 use Rattle.lines.specs.Lines.{header, answerLine, stoppedLine}
 use Rattle.records.specs.Records.{twosComplement, confidencesOf, standing}
 use Rattle.records.specs.Capture.{runIn}
 use Rattle.run.specs.Output.{output}
-use Rattle.decoding.specs.Decoding.{messageAndReserve, Decoder}
+use Rattle.decoding.specs.Decoding.{Decoder}
+use Rattle.decoding.proofs.Decoding.{ones-decoded, zeros-decoded}
 use Rattle.capture.specs.Cases.{worked, workedNumbers, cases, AllHold}
 
 module _ (decode : List ℤ → Answer (ℕ × ℕ)) where
@@ -29,12 +29,6 @@ module _ (decode : List ℤ → Answer (ℕ × ℕ)) where
         header ++ (answerLine (ones i) (Lost 0) ++ (answerLine (ones i) (Lost 1) ++ (answerLine (ones i) Repeat ++ (answerLine (ones i) Late ++ []))))
 
   module _ (D : Decoder decode) where
-    ones-decoded : decode allOnes ≡ accepted (0, 8)
-    ones-decoded = D .told allOnes ∙ ap messageAndReserve (ones-answered (D .soft allOnes) (D .allowed allOnes))
-
-    zeros-decoded : decode allZeros ≡ refused 6
-    zeros-decoded = D .told allZeros ∙ ap messageAndReserve (zeros-refused (D .soft allZeros) (D .allowed allZeros))
-
     pub cases-hold : AllHold decode cases
     unfolding cases
-    cases-hold = (worked-holds ones-decoded zeros-decoded, (numbers-hold ones-decoded, tt))
+    cases-hold = (worked-holds (ones-decoded decode D) (zeros-decoded decode D), (numbers-hold (ones-decoded decode D), tt))

@@ -1,2 +1,4 @@
 pub mod Reports
 pub mod Counting
+pub mod Alike
+pub mod Cases

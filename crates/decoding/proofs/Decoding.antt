@@ -16,11 +16,13 @@ use Rattle.code.specs.Code.{messages, positions}
 use Rattle.golay.specs.declared.kinds.Refusal.the-variants.{WrongLength, MostNegative}
 use Rattle.golay.specs.Answers.{Answer, accepted, refused, Refuse}
 use Rattle.golay.specs.Calls.{wrongLength}
+use Rattle.reading.specs.Cases.{allOnes, allZeros}
 use Rattle.reading.specs.Checks.{mostNegative}
 use Rattle.classes.specs.Codewords.{word}
 use Rattle.classes.proofs.Codewords.{family}
 use Rattle.soft.specs.declared.kinds.Soft.{Soft}
 use Rattle.soft.specs.Calls.{told, Decides, SoftRule}
+use Rattle.soft.proofs.Cases.{ones-answered, zeros-refused}
 use Rattle.soft.proofs.Decided.{soft-once, soft-exists}
 use Rattle.decoding.specs.Decoding.{messageAndReserve, Decoder}
 
@@ -33,6 +35,13 @@ a-decoder = (
 module _ (decode : List ℤ → Answer (ℕ × ℕ)) (D : Decoder decode) where
   pub tells : (xs : List ℤ) (a : Answer Soft) → SoftRule xs a → decode xs ≡ messageAndReserve a
   tells xs a r = D .told xs ∙ ap messageAndReserve (soft-once xs (D .soft xs) a (D .allowed xs) r)
+
+  -- Rule 16.6: the worked readings of captures
+  pub ones-decoded : decode allOnes ≡ accepted (0, 8)
+  ones-decoded = D .told allOnes ∙ ap messageAndReserve (ones-answered (D .soft allOnes) (D .allowed allOnes))
+
+  pub zeros-decoded : decode allZeros ≡ refused 6
+  zeros-decoded = D .told allZeros ∙ ap messageAndReserve (zeros-refused (D .soft allZeros) (D .allowed allZeros))
 
 pub one-decoder : (f g : List ℤ → Answer (ℕ × ℕ)) → Decoder f → Decoder g → (xs : List ℤ) → f xs ≡ g xs
 one-decoder f g F G xs = tells f F xs (G .soft xs) (G .allowed xs) ∙ sym (G .told xs)

@@ -1,0 +1,6 @@
+pub mod Unnumbered
+pub mod Upto
+pub mod Decided
+pub mod Pieces
+pub mod Alike
+pub mod Cases
