@@ -39,7 +39,7 @@ module _ (decode : List ℤ → Answer (ℕ × ℕ)) where
       (goesOn (λ number next. turnsFrom readings number next (drop (next - offset) bytes) pieces) (runFrom ending false previous offset bytes))
   turn-counted T previous offset held piece pieces =
       let bytes = held ++ piece in
-      ap (tallied decode T) (turns-go _ _ previous offset held piece pieces)
+      ap (tallied decode T) (turns-go (λ number r. r .reading ∷ []) (λ n number next. []) previous offset held piece pieces)
       ∙ tallied-append T (runFrom readings false previous offset bytes)
       (goesOn (λ number next. turnsFrom readings number next (drop (next - offset) bytes) pieces) (runFrom ending false previous offset bytes))
 

@@ -8,6 +8,8 @@ use lib.IntN.{ℤ}
 use lib.ListN.{drop}
 use Rattle.golay.specs.Answers.{Answer}
 use Rattle.sequence.specs.declared.kinds.Number.{Number}
+use Rattle.sequence.specs.Sequence.{followsFrom}
+use Rattle.lines.specs.Lines.{stoppedLine, answerLine}
 use Rattle.records.specs.Capture.{runFrom, ending}
 use Rattle.pieces.specs.Pieces.{allPieces, turnsFrom}
 use Rattle.pieces.proofs.Pieces.{pieces-told}
@@ -23,7 +25,8 @@ module _ (decode : List ℤ → Answer (ℕ × ℕ)) where
       turnsFrom (lines decode) previous offset held (piece ∷ pieces)
       ≡ linesFrom decode false previous offset bytes
       ++ goesOn (λ number next. turnsFrom (lines decode) number next (drop (next - offset) bytes) pieces) (runFrom ending false previous offset bytes)
-  turns-go = listed.turns-go _ _
+  turns-go =
+      listed.turns-go (λ previous r. answerLine (decode (r .reading)) (followsFrom previous (r .number))) (λ n previous offset. stoppedLine n offset)
 
   pub turns-text :
       (previous : Number) (offset : ℕ) (held : List ℕ) (pieces : List (List ℕ))
