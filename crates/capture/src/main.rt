@@ -1,5 +1,4 @@
 // Decodes a capture, from the file that the argument names or from standard input: the header, a line for each record, the line where it stopped.
-// A first argument `-9` says that someone reads descriptor 9 for failures: the language gives a program no exit status.
 ghost use mathlib.Core.Path.{_≡_};
 ghost use mathlib.Core.Bool.{false};
 ghost use Prim.Native.Nat.{_+_, _≤_, _<_};
@@ -8,46 +7,27 @@ ghost use Rattle.lines.specs.Lines.{longest};
 ghost use Rattle.records.specs.Records.{newLength};
 ghost use Rattle.run.specs.Runs.{Room};
 use libc::STDERR_FILENO;
-use libc::STDIN_FILENO;
 use libc::STDOUT_FILENO;
 use lines::LONGEST;
+use outside::FARTHEST;
+use outside::clear_progress;
+use outside::close;
+use outside::fail;
+use outside::first_argument;
+use outside::is_watched;
+use outside::open_argument;
+use outside::show_progress;
 use sequence::kinds::Number;
 use turns::kinds::Turned;
 
-// No offset comes near the end of 64 bits; this says so to the proof.
-const FARTHEST: u64 = 0xFFFF_FFFF_FFFE_0000;
-
 // As many bytes as are held, and one line more.
 const TEXT: usize = 65_536 + LONGEST;
-
-const MEBIBYTE: u64 = 0x10_0000;
-
-const FAILURES_FILENO: i32 = 9;
-
-// Unasked, the descriptor may be anybody's.
-fn tells_failures() -> bool {
-    let mut word = [0u8; 2];
-    let length = os::arg(1, &mut word);
-    length == 2 && word[0] == b'-' && word[1] == b'9'
-}
-
-// What failed and why, on standard error; and that something failed, where that is asked for.
-fn fail(what: &[u8]) {
-    os::fail(what);
-    if tells_failures() {
-        io::write_all(FAILURES_FILENO, b"failed\n");
-    }
-}
 
 // The first bytes of a buffer, to standard output.
 fn write_text(text: &[u8], put: usize) -> bool
     requires { ⌜ put ≤ length (now text) ⌝ }
 {
-    let written = io::write_all(STDOUT_FILENO, &text[..put]);
-    if !written {
-        fail(b"standard output");
-    }
-    written
+    outside::write_text(&text[..put])
 }
 
 fn write_header() -> bool {
@@ -58,21 +38,7 @@ fn write_header() -> bool {
 
 // Where it would not run into the text: standard error is a terminal, and standard output is none.
 fn shows_progress() -> bool {
-    libc::isatty(STDERR_FILENO) == 1 && libc::isatty(STDOUT_FILENO) != 1
-}
-
-// How far the run has come, whenever it is a mebibyte farther. What is written next, also a failure, begins the line again.
-fn show_progress(shows: bool, before: u64, now: u64) {
-    if shows && before / MEBIBYTE < now / MEBIBYTE {
-        io::print_decimal(STDERR_FILENO, now / MEBIBYTE);
-        io::write_all(STDERR_FILENO, b" MiB decoded\r");
-    }
-}
-
-fn clear_progress(shows: bool) {
-    if shows {
-        io::write_all(STDERR_FILENO, b"\r\x1b[K");
-    }
+    is_watched() && libc::isatty(STDOUT_FILENO) != 1
 }
 
 // The text of what is left at the end of the input.
@@ -155,45 +121,18 @@ fn decode(fd: i32, name: &[u8]) {
     }
 }
 
-fn is_dash(path: &[u8]) -> bool {
-    path.len() == 1 && path[0] == b'-'
-}
-
-fn decode_file(path: &[u8]) {
-    let fd = os::open_read(path);
-    if fd < 0 {
-        fail(path);
-        return;
-    }
-    decode(fd, path);
-    libc::close(fd);
-}
-
-fn decode_argument(place: usize) {
-    let mut path = io::buffer();
-    let length = os::arg(place, &mut path);
-    if os::arg_count() <= place || is_dash(&path[..length]) {
-        decode(STDIN_FILENO, b"standard input");
-        return;
-    }
-    // An argument that is longer than any path: its first bytes name it.
-    if os::errno() != 0 {
-        fail(&path);
-        return;
-    }
-    decode_file(&path[..length]);
-}
-
 fn main() {
-    let mut place: usize = 1;
-    let mut most: usize = 2;
-    if tells_failures() {
-        place = 2;
-        most = 3;
-    }
-    if os::arg_count() > most {
+    let place = first_argument();
+    if os::arg_count() > place + 1 {
         io::write_all(STDERR_FILENO, b"usage: capture [-9] [FILE]\n");
         return;
     }
-    decode_argument(place);
+    let mut name = io::buffer();
+    let input = open_argument(place, &mut name);
+    let fd = input.fd;
+    if fd >= 0 {
+        let length = input.length;
+        decode(fd, &name[..length]);
+        close(fd);
+    }
 }

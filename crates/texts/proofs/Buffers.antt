@@ -1,13 +1,14 @@
 -- Texts in a buffer: one put after another is their join put at once, and so a line is put piece by piece.
 -- Assumes nothing.
-use mathlib.Core.Path.{_≡_, sym, ap, _∙_}
+use mathlib.Core.Path.{_≡_, refl, sym, ap, _∙_}
+use mathlib.Core.Bool.{Bool, true, false}
 use mathlib.Core.List.{List, _++_, append-assoc}
 use Prim.Native.Nat.{ℕ, _+_, _≤_, _<_}
 use native.Mathlib.Omega.{arith}
 use lib.ListN.{length, take, drop, length-append, length-drop}
 use lib.Seq.{paste, take-length, take-at, drop-at, drop-drop, length-take-le}
-use borrow.Author.Tests.{le-leb, lt-leb}
-use Rattle.texts.specs.Buffers.{put, Puts, Writes}
+use borrow.Author.Tests.{le-leb, lt-leb, leb-true}
+use Rattle.texts.specs.Buffers.{fits, put, Puts, Writes}
 
 -- the copy of all bytes of a text
 pub paste-put : (text buffer : List ℕ) (at : ℕ) → paste buffer at text (length text) ≡ put text buffer at
@@ -78,3 +79,13 @@ writes-puts {text} {before} {at = at} n h l p =
 -- the bytes up to the next place: those that stood there, and the text
 pub puts-front : {text before after : List ℕ} {at next : ℕ} → Puts text before at after next → take next after ≡ take at before ++ text
 puts-front {text} {before} {at = at} p = (λ i. take (p .place i) (p .buffer i)) ∙ take-put text before at (p .room)
+
+-- a text, written or not, ends within the buffer, if its place lies there
+pub writes-within : {text before after : List ℕ} {at next : ℕ} → Writes text before at after next → at ≤ length before → next ≤ length after
+writes-within {text} {before} {after} {at} {next} w h = cases (fits text before at) refl
+  where
+    cases : (b : Bool) → fits text before at ≡ b → next ≤ length after
+    cases true e =
+        let room = leb-true (at + length text) (length before) e in
+        omega (arith, room, simp e at (w .place), ap length (simp e at (w .buffer)), length-put text before at room)
+    cases false e = omega (arith, h, simp e at (w .place), ap length (simp e at (w .buffer)))
