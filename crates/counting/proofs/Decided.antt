@@ -7,6 +7,7 @@ use Prim.Native.Nat.{ℕ, zero, suc, _+_, _≤_, _<_}
 use native.Mathlib.Omega.{arith}
 use lib.Dec.{leb, eqb, lit≤}
 use lib.ListN.{length, take, drop}
+use lib.Seq.{length-take-le}
 use borrow.Author.Tests.{leb-true, leb-false, ne-eqb}
 use Rattle.decoding.proofs.Decoding.{a-decoder}
 use Rattle.sequence.specs.declared.kinds.Number.{Number}
@@ -132,3 +133,16 @@ counted-left {bytes} R =
     let e = ap (λ (c : Came). c .offset) (R .ended None 0) ∙ c .0 in
     let s = c .1 ∙ ap (λ (c : Came). not (eqb (c .stop) 0)) (sym (R .ended None 0)) in
     omega (arith, e, left-short None 0 bytes s)
+
+-- a turn over bytes that are held: what it came through and what it left are all of them, and unless it stopped it left less than a record
+pub turn-left :
+    {count : ℕ} {held kept : List ℕ} {before after : Totals} {stop through left : ℕ}
+    → CountsTurn count held kept before after stop through left
+    → count ≤ length held
+    → (through + left ≡ count) × (stop ≡ 0 → left < newLength)
+turn-left {count} {held} {kept} {before} {after} {stop} {through} {left} T h =
+    let (R, K) = T .there h in
+    let long = length-take-le count held h in
+    let near : through ≤ count = omega (arith, counted-near R, long) in
+    let rest = K .there (record { ordered = near; there = h }) .1 in
+    (omega (arith, rest, near), λ e. omega (arith, counted-left (rw e at R), long, rest))

@@ -4,7 +4,7 @@
 use mathlib.Core.Path.{_≡_, refl, sym, _∙_}
 use mathlib.Core.Bool.{Bool, true, false}
 use mathlib.Core.List.{List}
-use Prim.Native.Nat.{ℕ, _+_, _*_}
+use Prim.Native.Nat.{ℕ, _+_, _*_, _≤_}
 use native.Mathlib.Omega.{arith}
 use lib.Dec.{leb}
 use lib.ListN.{length}
@@ -36,17 +36,23 @@ module _ (T : Totals) (before : List ℕ) where
     none = λ none. absurd (none R);
   }
 
-  pub sheet-once : {after later : List ℕ} {r s : ℕ} → SheetRule T before after r → SheetRule T before later s → (after ≡ later) × (r ≡ s)
-  sheet-once {after} {later} {r} {s} S U = cases (leb longest (length before)) refl
+  -- whether there is room can be told
+  by-room : {P : Type 0} → (Room → P) → ((Room → ⊥) → P) → P
+  by-room {P} there missing = cases (leb longest (length before)) refl
     where
-      cases : (b : Bool) → leb longest (length before) ≡ b → (after ≡ later) × (r ≡ s)
-      cases true e =
-          let room : Room = record { lines = leb-true longest (length before) e } in
-          let p = S .room room in
-          let q = U .room room in
-          (p .buffer ∙ sym (q .buffer), p .place ∙ sym (q .place))
-      cases false e =
-          let none : Room → ⊥ = λ R. omega (arith, leb-false longest (length before) e, R .lines) in
-          let (a, p) = S .none none in
-          let (b, q) = U .none none in
-          (a ∙ sym b, p ∙ sym q)
+      cases : (b : Bool) → leb longest (length before) ≡ b → P
+      cases true e = there (record { lines = leb-true longest (length before) e })
+      cases false e = missing (λ R. omega (arith, leb-false longest (length before) e, R .lines))
+
+  pub sheet-once : {after later : List ℕ} {r s : ℕ} → SheetRule T before after r → SheetRule T before later s → (after ≡ later) × (r ≡ s)
+  sheet-once S U =
+      by-room
+      (λ R. let p = S .room R in let q = U .room R in (p .buffer ∙ sym (q .buffer), p .place ∙ sym (q .place)))
+      (λ none. let (a, p) = S .none none in let (b, q) = U .none none in (a ∙ sym b, p ∙ sym q))
+
+  -- the sheet ends within the buffer
+  pub sheet-within : {after : List ℕ} {r : ℕ} → SheetRule T before after r → length after ≡ length before → r ≤ length after
+  sheet-within S same =
+      by-room
+      (λ R. let p = S .room R in omega (arith, p .room, p .place, same))
+      (λ none. let (a, p) = S .none none in omega (arith, p))

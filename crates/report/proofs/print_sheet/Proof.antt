@@ -1,32 +1,34 @@
+-- `report::print_sheet` is safe: the sheet ends within its array.
+-- Assumes nothing.
+use mathlib.Core.Path.{sym}
+use Prim.Native.Nat.{_≤_}
 use borrow.Author.Needs.{needs}
+use lib.ListN.{length}
+use lib.Seq.{length-take-le}
+use Rattle.sheet.proofs.Decided.{sheet-within}
 use Rattle.report.proofs.print_sheet.Statement.{statement}
 use Rattle.report.proofs.print_sheet.Tie as tie
-use Rattle.report.proofs.print_sheet.Reads as reads
-use Rattle.report.proofs.print_sheet.Lts as lts
-use Rattle.outside.proofs.write_text.Reads as write-text-reads
-use Rattle.sheet.proofs.write_sheet.Reads as write-sheet-reads
 
--- src/main.rt:156:42
 slice-aggregate-write-sheet : tie.Need-slice-aggregate-write-sheet
 slice-aggregate-write-sheet c = search needs
 
--- src/main.rt:156:9
 write-sheet-requires : tie.Need-write-sheet-requires
 write-sheet-requires c κs = search needs
 
--- src/main.rt:157:16
+within : (c : tie.After-write-sheet) → c .write-sheet .result ≤ length (c .write-sheet .last .1 .1 .0)
+within c = sheet-within _ _ (c .write-sheet .ensures) (search needs)
+
 array-share-prefix-text : tie.Need-array-share-prefix-text
-array-share-prefix-text c = ?
+array-share-prefix-text c = within (c .before)
 
--- src/main.rt:157:16
 slice-aggregate-write-text : tie.Need-slice-aggregate-write-text
-slice-aggregate-write-text c = ?
+slice-aggregate-write-text c =
+    let written = c .before .before in
+    sym (length-take-le (written .write-sheet .result) (written .write-sheet .last .1 .1 .0) (within written))
 
--- src/main.rt:157:5
 write-text-requires : tie.Need-write-text-requires
 write-text-requires c κs = search needs
 
--- src/main.rt:154:1
 returns : tie.Need-returns
 returns c = search needs
 
