@@ -27,6 +27,9 @@
  *                a class: positive where its confidences favour the interpretation with top bit 0,
  *                negative where that with top bit 1, 0 where neither; its size is what the favoured
  *                one brings, at most 8,589,934,588 (8.3)
+ *   tally        how many readings were counted, and how many of these soft accepts and refuses, with
+ *                the smallest and the total of the reserves. Beside it stands a table of 4,096
+ *                counts, at place m how often message m was accepted. Both begin as zeros (18.1)
  *
  * A yardstick: a clean signal, all 24 confidences right and of one size s, has the correlation 24 s
  * and the reserve 8 s, and no reading with sizes up to s has a larger reserve (7.8). To turn one of
@@ -50,15 +53,15 @@
 #include <stdint.h>
 
 /* The first number changes where a program that uses the library may have to change with it. */
-#define GARTHUMOR_VERSION "1.3.0"
+#define GARTHUMOR_VERSION "1.4.0"
 #define GARTHUMOR_VERSION_MAJOR 1
-#define GARTHUMOR_VERSION_MINOR 3
+#define GARTHUMOR_VERSION_MINOR 4
 #define GARTHUMOR_VERSION_PATCH 0
 
 /* What a call returns (11.1). 9 and 10 are missing: they tell how a capture stops, and no call here
- * gives them. 12 to 17 have no meaning. */
+ * gives them. 13 to 17 have no meaning. */
 #define GARTHUMOR_ANSWERED 0
-#define GARTHUMOR_WRONG_LENGTH 1       /* not 24 confidences, not 3 bytes or not 6 slots */
+#define GARTHUMOR_WRONG_LENGTH 1       /* not 24 confidences, 3 bytes, 6 slots or 4,096 counts */
 #define GARTHUMOR_MOST_NEGATIVE 2      /* a confidence is -2,147,483,648 */
 #define GARTHUMOR_MESSAGE_ABOVE 3      /* above 4,095 */
 #define GARTHUMOR_WORD_ABOVE 4         /* a word or a pattern above 16,777,215 */
@@ -67,6 +70,7 @@
 #define GARTHUMOR_DISTANCE_FOUR 7      /* too far from the code to be corrected; six are as near */
 #define GARTHUMOR_NOT_DISTANCE_FOUR 8  /* nearer to the code than 4, so no six candidates */
 #define GARTHUMOR_CLASS_ABOVE 11       /* above 127 */
+#define GARTHUMOR_COUNT_FULL 12        /* a count past 4,294,967,295, or a total past 2^63 - 1 */
 #define GARTHUMOR_NO_COLUMN 18         /* not 1 to 6 */
 
 /* What garthumor_better returns (17.4). */
@@ -106,6 +110,24 @@ uint8_t garthumor_column_figure(const int32_t *reading, size_t length, uint32_t 
  *   if (receiver != GARTHUMOR_NEITHER)
  *       take((receiver == GARTHUMOR_FIRST ? first : second) + 24 * number); */
 uint8_t garthumor_better(const int32_t *first, size_t first_length, const int32_t *second, size_t second_length, size_t number);
+
+/* ---- the link report */
+
+/* All zeros before the first reading. */
+struct garthumor_tally {
+    uint32_t read;      /* readings counted */
+    uint32_t accepted;  /* of these: soft accepts them */
+    uint32_t refused_2; /* soft refuses them with 2 */
+    uint32_t refused_6; /* soft refuses them with 6 */
+    uint64_t smallest;  /* the smallest reserve; 0 where there is none yet */
+    uint64_t total;     /* all reserves added up */
+};
+
+/* Counts a reading in a tally and its table (18.2). One that soft accepts goes into read, accepted,
+ * smallest, total and counts[message]; one that soft refuses with 2 or 6 goes into read and into
+ * refused_2 or refused_6, which is an answer here. Refuses 1, 12: the reading is counted nowhere. For
+ * 12 only those numbers matter that it would move (18.3). */
+uint8_t garthumor_count(struct garthumor_tally *tally, uint32_t *counts, size_t counts_length, const int32_t *reading, size_t length);
 
 /* ---- the code */
 

@@ -26,6 +26,7 @@ reads_as() {
 # Sets first, what the first record of a sample gives; the record alone stands in target/record.
 cut_record() {
     head -c 98 samples/decent.capture >target/record
+    head -c 150 samples/decent.capture >target/half
     first=$(target/second capture target/record)
 }
 
@@ -97,9 +98,38 @@ tells_of_the_terminal() {
         ended 0 "$first" '' python3 tests/terminal.py input "$@" target/record
 }
 
+# ---- The link report, by the command's words
+
+# One sheet for all samples; the names of those that stop, and where, on standard error.
+reports() {
+    stops=$(for file in samples/*.capture; do target/second capture "$file" | sed -n "s|^stopped|$file: stopped|p"; done)
+    ended 0 "$(target/second sheet samples/*.capture)" "$stops" "$@" samples/*.capture &&
+        ended 0 "$(target/second sheet samples/decent.capture)" '' "$@" <samples/decent.capture &&
+        ended 0 "$(target/second sheet target/record samples/weak.capture)" '' "$@" - samples/weak.capture <target/record
+}
+
+# What can't be read ends with 1 and is named with the reason, all of it in one run, and there is no sheet; what stops is told all the same.
+tells_unread() {
+    ended 1 '' 'target/missing: No such file or directory' "$@" target/record target/missing target/record &&
+        ended 1 '' $'samples: Is a directory\ntarget/missing: No such file or directory' "$@" samples target/record target/missing &&
+        ended 1 '' $'target/missing: No such file or directory\ntarget/half: stopped 10 at 98' "$@" target/missing target/half &&
+        ended 1 '' '/proc/self/mem: Input/output error' "$@" target/record /proc/self/mem &&
+        ended 1 '' '*: standard input is closed' timeout 20 "$@" target/record - <&- &&
+        ended 0 "$(target/second sheet target/record)" '' "$@" target/record <&- &&
+        ended 1 '' '*: standard output is closed' to_closed_output "$@" target/record &&
+        ended 1 '' 'standard output: No space left on device' to_full_disk "$@" target/record
+}
+
+# Where standard error is a terminal: how far it is, and nothing of it is left.
+shows_how_far() {
+    for _ in {1..50}; do cat samples/decent.capture; done >target/long.capture
+    ended 0 "$(target/second sheet target/long.capture)" '' python3 tests/terminal.py errors target/shown "$@" target/long.capture &&
+        grep -q '1 MiB decoded' target/shown
+}
+
 # Unasked, the program leaves descriptor 9 alone: it may be anybody's.
 writes_to_nine_when_asked() {
-    alone=(${emulator:+"$emulator"} "${loader[@]}" target/bin/capture)
+    alone=(${emulator:+"$emulator"} "${loader[@]}" "target/bin/$1")
     "${alone[@]}" target/missing 9>target/told 2>/dev/null && [ ! -s target/told ] &&
         "${alone[@]}" -9 target/missing 9>target/told 2>/dev/null && [ -s target/told ] &&
         "${alone[@]}" -9 target/record 9>target/told >/dev/null && [ ! -s target/told ]
@@ -109,12 +139,14 @@ writes_to_nine_when_asked() {
 
 # checks_words NAME COMMAND: help, and the refusal of words that mean nothing; NAME is how the command calls itself
 checks_words() {
-    usage="usage: $1 capture [FILE]"
+    usage="usage: $1 capture [FILE]"$'\n'"       $1 report [FILE..]"
     ended 0 "$usage*" '' "$2" --help && ended 0 "$usage*" '' "$2" -h && ended 0 "$usage*" '' "$2" capture --help &&
         ended 2 '' "$usage" "$2" && ended 2 '' "$usage" "$2" decode &&
         ended 2 '' "*: capture takes one file, not 2"$'\n'"$usage" "$2" capture one two &&
         ended 2 '' "*: the file's name is empty"$'\n'"$usage" "$2" capture '' &&
-        ended 2 '' "*: there is no option --all; a file of that name is ./--all"$'\n'"$usage" "$2" capture --all
+        ended 2 '' "*: there is no option --all; a file of that name is ./--all"$'\n'"$usage" "$2" capture --all &&
+        ended 0 "$usage*" '' "$2" report --help && ended 2 '' "*: the file's name is empty"$'\n'"$usage" "$2" report one '' &&
+        ended 2 '' "*: there is no option --all; a file of that name is ./--all"$'\n'"$usage" "$2" report one --all
 }
 
 scripts_check_words() {
@@ -137,8 +169,8 @@ doc) echo "$tree/kit/docs/START-HERE.md" ;;
     [ ! -e "$tree/broken" ] || { echo 'rt: capture NOT PROVED (exit 1, 2 s)'; exit 1; }
     for room in binary signed contest; do echo "rt: \$room proved (5 s)"; done
     mkdir -p target/bin
-    printf '#!/bin/sh\necho decoded\n' >target/bin/capture
-    chmod 755 target/bin/capture
+    printf '#!/bin/sh\necho decoded\n' >"target/bin/\$2"
+    chmod 755 "target/bin/\$2"
     ;;
 esac
 EOT
@@ -157,6 +189,7 @@ make_tree() {
 remove_tree() { chmod -R u+w "$tree" && rm -rf "$tree"; }
 
 with_kit() { PATH=$tree/kit/bin:$PATH "$@" capture </dev/null; }
+report_with_kit() { PATH=$tree/kit/bin:$PATH "$tree/run" report "$@" </dev/null; }
 without_kit() { PATH=$tree/bare "$@" capture </dev/null; }
 # someone who may not write what nobody may: not root
 as_another() { if [ "$(id -u)" = 0 ]; then setpriv --reuid=65534 --regid=65534 --clear-groups "$@"; else "$@"; fi; }
@@ -168,6 +201,13 @@ building_is_told() {
     ended 1 '' "run: the capture program has to be built$no_kit" without_kit "$tree/run" && touch "$tree/broken" &&
         ended 1 '' "$building"$'\n''rt: capture NOT PROVED (exit 1, 2 s)'$'\n'"$not_proved" with_kit "$tree/run" &&
         rm "$tree/broken" && ended 0 decoded "$building" with_kit "$tree/run" && ended 0 decoded '' with_kit "$tree/run"
+}
+
+# The report program is another; files that can't be read are all named before minutes of building.
+report_is_built() {
+    ended 1 '' $'run: target/missing: No such file or directory\nrun: samples: Is a directory' report_with_kit target/missing samples target/record &&
+        ended 0 decoded 'proving and building the report program, once; this takes some minutes' report_with_kit target/record - &&
+        ended 0 decoded '' report_with_kit target/record
 }
 
 # Where standard error is a terminal.
@@ -200,6 +240,7 @@ try_tree() {
     not_proved="run: the capture program is not proved: rt check capture ended with 1; $tree/target/log/build.out has the whole report"
     cannot_write="run: $tree/target can't be written to, and the capture program has to be built there"
     part "./run tells that it builds, that it can't, and that the kit is missing" building_is_told
+    part "./run builds the report program" report_is_built
     part "./run shows the rooms on a terminal" rooms_are_shown
     part "what is built runs without the kit" built_needs_no_kit
     part "./run by a link, and with CDPATH" run_is_found
@@ -242,6 +283,12 @@ try_command() { # NAME WORD..
     part "$1 tells that it reads a terminal" tells_of_the_terminal "${@:2}"
 }
 
+try_report() { # NAME WORD..
+    part "$1 reports on the samples" reports "${@:2}"
+    part "$1 prints no sheet where a capture can't be read" tells_unread "${@:2}"
+    part "$1 shows how far the report is" shows_how_far "${@:2}"
+}
+
 try_install() {
     place=$(mktemp -d) || { bad "no folder to install into"; return; }
     part "./install" installs
@@ -249,6 +296,7 @@ try_install() {
     part "./install knows its folder" install_knows_its_folder
     part "the words of the installed command" checks_words garthumor "$place/garthumor/bin/garthumor"
     try_command "the installed command" "$place/garthumor/bin/garthumor" capture
+    try_report "the installed command" "$place/garthumor/bin/garthumor" report
     rm -rf "$place"
 }
 
@@ -261,4 +309,4 @@ counts_are_the_same() {
     say "here '$here', and in another environment '$there'"
     return 1
 }
-some_counts() { executed target/bench run encode decent 0 4 && records old 2 && records new 2; }
+some_counts() { executed target/bench run encode decent 0 4 && records capture old 2 && records capture new 2 && records report old 2; }

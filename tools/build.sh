@@ -45,7 +45,8 @@ prove() {
     touch "$root/$2"
 }
 
-capture_is_built() { fresh target/bin/capture; }
-build_capture() { capture_is_built || prove "the capture program" target/bin/capture check capture; }
+# The programs are capture and report.
+is_built() { fresh "target/bin/$1"; }
+build_program() { is_built "$1" || prove "the $1 program" "target/bin/$1" check "$1"; }
 build_library() { fresh target/staticlib/libdrive.a || prove "the library for C" target/staticlib/libdrive.a staticlib drive; }
 build_trial() { fresh target/staticlib/libtrial.a || prove "the library for the tests" target/staticlib/libtrial.a staticlib trial; }

@@ -38,13 +38,13 @@ longest() {
     reading=${word//n/\\200\\0\\0\\1} reading=${reading//p/\\177\\377\\377\\377}
     for ((i = 0; i < $1; i++)); do printf "ID\\$((i % 2 * 2))00\\0$reading"; done
 }
-# records KIND N: what the whole capture program executes for n records: old ones, the first of the decent sample; new ones, those after the 60
-# old records of the numbered sample; or those with the longest lines
+# records PROGRAM KIND N: what a whole program, capture or report, executes for n records: old ones, the first of the decent sample; new ones,
+# those after the 60 old records of the numbered sample; or those with the longest lines
 records() {
-    case $1 in
-    old) head -c $((98 * $2)) samples/decent.capture ;;
-    new) tail -c +$((98 * 60 + 1)) samples/numbered.capture | head -c $((100 * $2)) ;;
-    longest) longest "$2" ;;
+    case $2 in
+    old) head -c $((98 * $3)) samples/decent.capture ;;
+    new) tail -c +$((98 * 60 + 1)) samples/numbered.capture | head -c $((100 * $3)) ;;
+    longest) longest "$3" ;;
     esac >target/bench.capture
-    executed target/kit/ld-linux-x86-64.so.2 --library-path target/kit target/bin/capture target/bench.capture
+    executed target/kit/ld-linux-x86-64.so.2 --library-path target/kit "target/bin/$1" target/bench.capture
 }

@@ -3,7 +3,8 @@
 is declared and each declaration is defined, with the same parameters in the same order under the same names, and the types that C has for the
 source's. Prints what differs; exit 1 where something does.
 
-A slice is a pointer and a length in C; the length has no name in the source, so the header chooses it.
+A slice is a pointer and a length in C; the length has no name in the source, so the header chooses it. A struct that both have has the same fields
+in the same order.
 """
 
 import pathlib
@@ -13,13 +14,17 @@ import sys
 ROOT = pathlib.Path(__file__).resolve().parent.parent
 PAIRS = {"crates/drive/src/lib.rt": "include/garthumor.h", "crates/trial/src/lib.rt": "tests/host/trial.h"}
 
-NUMBERS = {"u8": "uint8_t", "u16": "uint16_t", "u32": "uint32_t", "i32": "int32_t", "i64": "int64_t", "usize": "size_t"}
+NUMBERS = {"u8": "uint8_t", "u16": "uint16_t", "u32": "uint32_t", "u64": "uint64_t", "i32": "int32_t", "i64": "int64_t", "usize": "size_t"}
+# A struct of the source, the file that has it, and what C calls it.
+STRUCTS = {"Tally": ("crates/tally/src/kinds.rt", "struct garthumor_tally")}
+TYPES = NUMBERS | {name: called for name, (_, called) in STRUCTS.items()}
 LENGTH = "(length)"
 
 ENTRY_POINT = re.compile(r'#\[no_mangle\]\s+pub extern "C" fn (\w+)\(([^)]*)\)\s*->\s*(\w+)')
 RATTLE_TYPE = re.compile(r"(&mut |&|)(\[?)(\w+)(\]?)")
 DECLARATION = re.compile(r"(\w+)\s+(\w+)\s*\(([^)]*)\)")
 C_PARAMETER = re.compile(r"(.*?)(\w+)", re.DOTALL)
+C_STRUCT = re.compile(r"(struct \w+) \{([^}]*)\}")
 
 
 class Unreadable(Exception):
@@ -29,12 +34,12 @@ class Unreadable(Exception):
 def in_c(name, rattle):
     """The parameters that C has for one of the source's: pairs of a type and a name."""
     match = RATTLE_TYPE.fullmatch(rattle)
-    if not match or match[3] not in NUMBERS or (match[2] == "[") != (match[4] == "]") or (match[2] and not match[1]):
+    if not match or match[3] not in TYPES or (match[2] == "[") != (match[4] == "]") or (match[2] and not match[1]):
         raise Unreadable(f"{name}: {rattle} is no type of a parameter for C")
-    lent, bracket, number, _ = match.groups()
+    lent, bracket, kind, _ = match.groups()
     pointer = {"": "", "&": " *", "&mut ": " *"}[lent]
     constant = "const " if lent == "&" else ""
-    return [(constant + NUMBERS[number] + pointer, name)] + ([("size_t", LENGTH)] if bracket else [])
+    return [(constant + TYPES[kind] + pointer, name)] + ([("size_t", LENGTH)] if bracket else [])
 
 
 def defined(text):
@@ -58,10 +63,29 @@ def declared_parameter(text):
     return " ".join(match[1].replace("*", " * ").split()), match[2]
 
 
+def fields_in_source(name):
+    """The fields of a struct as C sees them; only one that is laid out as in C has any."""
+    match = re.search(r"#\[repr\(C\)\]\s+pub struct %s \{([^}]*)\}" % name, (ROOT / STRUCTS[name][0]).read_text(encoding="utf-8"))
+    if not match:
+        raise Unreadable(f"{STRUCTS[name][0]} has no struct {name} that is laid out as in C")
+    pairs = [field.split(":") for field in match[1].split(",") if field.strip()]
+    return [(NUMBERS[right.strip()], left.replace("pub", "").strip()) for left, right in pairs]
+
+
+def without_structs(text):
+    """The header's text without its structs, whose fields must be those of the source."""
+    wanted = {called: fields_in_source(name) for name, (_, called) in STRUCTS.items()}
+    for called, fields in C_STRUCT.findall(text):
+        found = [declared_parameter(field) for field in fields.split(";") if field.strip()]
+        if wanted.get(called) != found:
+            raise Unreadable(f"{called} has the fields {found}, and the source has {wanted.get(called)}")
+    return C_STRUCT.sub("", text)
+
+
 def declared(text):
     """Each declaration of the header: its return type and its parameters."""
     text = re.sub(r"/\*.*?\*/", "", text, flags=re.DOTALL)
-    text = re.sub(r"^#.*$", "", text, flags=re.MULTILINE)
+    text = without_structs(re.sub(r"^#.*$", "", text, flags=re.MULTILINE))
     text = text.replace('extern "C" {', "").replace("}", "")
     calls = {}
     for declaration in filter(None, map(str.strip, text.split(";"))):

@@ -1,7 +1,8 @@
 # Sourced by the scripts and by the installed command: how this machine runs programs for x86-64, which all of ours are.
 
 say() { printf '%s\n' "$*"; }
-die() { printf '%s: %s\n' "${0##*/}" "$*" >&2; exit 1; }
+tell() { printf '%s: %s\n' "${0##*/}" "$*" >&2; }
+die() { tell "$@"; exit 1; }
 
 # The kit's folder is two above the guide that `rt doc` prints; where there is no kit, this fails and says nothing.
 kit() { guide=$(rt doc </dev/null 2>/dev/null) && dirname "$(dirname "$guide")"; }

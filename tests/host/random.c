@@ -1,4 +1,4 @@
-/* Random calls of all fourteen entry points, with arguments that favour the edges and guard bytes around
+/* Random calls of all fifteen entry points, with arguments that favour the edges and guard bytes around
  * every buffer. After each call: the guards hold, inputs are as they were, a refusal left every
  * output alone and has the number that the rules of docs/RULES.md ask for, and an answer is the one
  * that they ask for. What they ask for is found here, with no help of the library. Only where that
@@ -14,11 +14,15 @@
 #include <inttypes.h>
 #include <stdio.h>
 #include <stdlib.h>
+#include <string.h>
 
 enum { WORD_BYTES = 3, SLOTS = 6, LONGEST_SHORT = 25, LONG = 1 << 20, SHOWN = 10 };
 enum { MESSAGE_BITS = 12, MESSAGES = 1 << MESSAGE_BITS, WORDS = 1 << POSITIONS, COLUMNS = 6 };
 enum { CLASSES = 128, CLASS_SIZE = 32 };
 enum { MOST_READINGS = 3, LONGEST_BUFFER = MOST_READINGS * POSITIONS + 1 };
+
+/* How many readings there are to count at a time, and how many counts guard the table at either end. */
+enum { KNOWN = 64, GUARD_COUNTS = 64 };
 
 /* No word is farther from the code; two codewords are not nearer to each other. */
 enum { FARTHEST = 4, LEAST_BETWEEN = 8 };
@@ -568,6 +572,165 @@ static struct outcome try_better(void)
     return judged(given, asked, 1, NULL);
 }
 
+/* ---- counting */
+
+/* A reading, and what a look at every codeword says of it: refusal 0, 2 or 6, message and reserve. */
+struct known {
+    int32_t reading[POSITIONS];
+    uint8_t refusal;
+    uint32_t message;
+    uint64_t reserve;
+};
+
+/* The readings that are counted. As one call in a few takes a new one in, each call is held to all
+ * codewords at the cost of one look in a few. */
+static struct known known[KNOWN];
+
+/* The first message and the last come up often. */
+static void know(struct known *one)
+{
+    some_reading(one->reading);
+    if (chance() % 16 == 0)
+        fill_reading(one->reading, DECENT, codewords[chance() % 2 * (MESSAGES - 1)]);
+    one->refusal = asked_of_reading(one->reading, POSITIONS);
+    one->message = chance() % MESSAGES;
+    one->reserve = 1 + chance() % 100;
+    if (one->refusal != 0)
+        return;
+    struct top top = soft_top(one->reading);
+    one->refusal = asked_of_top(top);
+    if (one->refusal != 0)
+        return;
+    one->message = top.message;
+    one->reserve = (uint64_t)(top.first - top.second) / 2;
+}
+
+static const struct known *some_known(void)
+{
+    struct known *one = &known[chance() % KNOWN];
+    if (chance() % LOOKED_INTO == 0)
+        know(one);
+    return one;
+}
+
+static const int32_t *lend_known(const struct known *one, size_t length)
+{
+    int32_t reading[LONGEST_SHORT] = { 0 };
+    memcpy(reading, one->reading, sizeof one->reading);
+    return lend(INPUT, "reading", length > LONGEST_SHORT ? (const void *)contents : reading, length * sizeof *reading);
+}
+
+/* The table stays from call to call, since 16 KiB afresh would take most of the time. It stands between
+ * guards, and beside it what all of this must hold. */
+static uint32_t kept[GUARD_COUNTS + MESSAGES + GUARD_COUNTS], must_hold[GUARD_COUNTS + MESSAGES + GUARD_COUNTS];
+static uint32_t *const table = kept + GUARD_COUNTS;
+
+static void fill_table(void)
+{
+    for (size_t i = 0; i < sizeof kept / sizeof kept[0]; i++)
+        must_hold[i] = chance();
+    memcpy(kept, must_hold, sizeof kept);
+}
+
+static void set_place(uint32_t place, uint32_t count) { table[place] = must_hold[GUARD_COUNTS + place] = count; }
+
+/* Full, or short of it by one, or anything. */
+static uint32_t some_count(void)
+{
+    uint32_t sort = chance() % 16;
+    return sort < 2 ? UINT32_MAX - sort : sort == 2 ? 0 : chance();
+}
+
+static uint64_t some_wide(void) { return (uint64_t)chance() << 32 | chance(); }
+
+/* Often at its end or at that of 64 bits, or short of one by the reserve, or next to that. */
+static uint64_t some_total(uint64_t reserve)
+{
+    uint64_t end = chance() % 4 == 0 ? UINT64_MAX : INT64_MAX, total = some_wide() >> (1 + chance() % 63);
+    uint32_t sort = chance() % 8;
+    return sort == 0 ? end : sort == 1 ? some_wide() : sort < 5 ? end - reserve + sort - 3 : total;
+}
+
+/* None, or next to the reserve, or anything. */
+static uint64_t some_smallest(uint64_t reserve)
+{
+    uint32_t sort = chance() % 8;
+    return sort == 0 ? 0 : sort < 4 ? reserve + sort - 2 : some_wide() >> chance() % 64;
+}
+
+static struct garthumor_tally some_tally(const struct known *one)
+{
+    struct garthumor_tally tally = { 0 };
+    tally.read = some_count();
+    tally.accepted = some_count();
+    tally.refused_2 = some_count();
+    tally.refused_6 = some_count();
+    tally.smallest = some_smallest(one->reserve);
+    tally.total = some_total(one->reserve);
+    return tally;
+}
+
+/* Counts a reading that is known, or tells that a count is full and counts nothing. */
+static uint8_t count_known(struct garthumor_tally *tally, const struct known *one)
+{
+    uint32_t *refused = one->refusal == 2 ? &tally->refused_2 : &tally->refused_6;
+    uint32_t *first = one->refusal == 0 ? &tally->accepted : refused;
+    uint32_t *count = &must_hold[GUARD_COUNTS + one->message];
+    if (tally->read == UINT32_MAX || *first == UINT32_MAX)
+        return 12;
+    if (one->refusal == 0 && (*count == UINT32_MAX || tally->total > INT64_MAX || INT64_MAX - tally->total < one->reserve))
+        return 12;
+    tally->read++;
+    (*first)++;
+    if (one->refusal != 0)
+        return 0;
+    (*count)++;
+    tally->total += one->reserve;
+    if (tally->smallest == 0 || tally->smallest > one->reserve)
+        tally->smallest = one->reserve;
+    return 0;
+}
+
+static int same_tally(const struct garthumor_tally *one, const struct garthumor_tally *other)
+{
+    return one->read == other->read && one->accepted == other->accepted && one->refused_2 == other->refused_2 &&
+           one->refused_6 == other->refused_6 && one->smallest == other->smallest && one->total == other->total;
+}
+
+/* Whether the table and its guards are as they must be. Where not they are made so, so that one wrong
+ * write is told once. */
+static int table_holds(void)
+{
+    if (memcmp(kept, must_hold, sizeof kept) == 0)
+        return 1;
+    memcpy(kept, must_hold, sizeof kept);
+    return 0;
+}
+
+static size_t some_table_length(void)
+{
+    static const size_t lengths[] = { 0, 1, POSITIONS, MESSAGES - 1, MESSAGES + 1, MESSAGES + GUARD_COUNTS };
+    return chance() % 8 == 0 ? lengths[chance() % (sizeof lengths / sizeof lengths[0])] : MESSAGES;
+}
+
+static struct outcome try_count(void)
+{
+    const struct known *one = some_known();
+    size_t counts_length = some_table_length(), length = some_length(POSITIONS);
+    const int32_t *reading = lend_known(one, length);
+    set_place(one->message, some_count());
+    set_place(chance() % MESSAGES, some_count());
+    struct garthumor_tally asked_tally = some_tally(one);
+    struct garthumor_tally *tally = lend(MEMORY, "tally", &asked_tally, sizeof asked_tally);
+    uint8_t given = garthumor_count(tally, table, counts_length, reading, length);
+    uint8_t asked = counts_length != MESSAGES || length != POSITIONS ? 1 : count_known(&asked_tally, one);
+    looks += asked != 1;
+    struct outcome outcome = { given, asked, same_tally(tally, &asked_tally) ? NULL : "not the tally that there must be" };
+    if (!table_holds())
+        outcome.wrong = "not the table that there must be, or its guards";
+    return outcome;
+}
+
 static struct outcome try_write_bytes(void)
 {
     uint32_t word = some_word();
@@ -608,6 +771,7 @@ static const struct {
     { "soft", try_soft, { 1, 2, 6 } },
     { "quick", try_quick, { 1, 2, 6 } },
     { "better", try_better, { 1, 2 } },
+    { "count", try_count, { 1, 12 } },
     { "write_bytes", try_write_bytes, { 1, 4, 5 } },
     { "read_bytes", try_read_bytes, { 1, 5 } },
 };
@@ -667,6 +831,9 @@ int main(int argc, char **argv)
     list_all_patterns();
     for (size_t i = 0; i < LONG; i++)
         contents[i] = chance();
+    for (int i = 0; i < KNOWN; i++)
+        know(&known[i]);
+    fill_table();
     for (unsigned long number = 1; number <= count; number++)
         wrong += (unsigned long)one_call(number, wrong < SHOWN);
     for (size_t which = 0; which < CALLS; which++)

@@ -16,12 +16,12 @@
 #include <stdlib.h>
 #include <string.h>
 
-enum { MOST_HEADS = 2, MOST_NUMBERS = 256, LINE_BYTES = 4096 };
+enum { MOST_HEADS = 8, MOST_NUMBERS = 256, LONGEST_TABLE = 8192, LINE_BYTES = 4096 };
 
 enum outcome { ANSWERED, REFUSED, BROKEN };
 
-/* A case: the message, words, pattern, class, column, reading's number or length that the call has,
- * and the numbers after them. */
+/* A case: the message, words, pattern, class, column, reading's number, tally or length that the call
+ * has, and the numbers after them. */
 struct given {
     uint64_t head[MOST_HEADS];
     int64_t numbers[MOST_NUMBERS];
@@ -160,8 +160,11 @@ static void replay_candidates(const struct given *given)
 static const int32_t *lend_confidences(const char *name, const int64_t *numbers, size_t count)
 {
     int32_t confidences[MOST_NUMBERS];
-    for (size_t i = 0; i < count; i++)
+    for (size_t i = 0; i < count; i++) {
+        if (numbers[i] > INT32_MAX)
+            fail("no confidence of 32 bits among those of the ", name);
         confidences[i] = (int32_t)numbers[i];
+    }
     return lend(INPUT, name, confidences, count * sizeof *confidences);
 }
 
@@ -230,6 +233,71 @@ static void replay_better(const struct given *given)
         print_number(choice);
 }
 
+static uint32_t count_of(uint64_t number)
+{
+    if (number > UINT32_MAX)
+        fail("no count of 32 bits after ", "count");
+    return (uint32_t)number;
+}
+
+/* The six numbers of a tally are the first heads. */
+static struct garthumor_tally *lend_tally(const struct given *given)
+{
+    struct garthumor_tally tally = { 0 };
+    tally.read = count_of(given->head[0]);
+    tally.accepted = count_of(given->head[1]);
+    tally.refused_2 = count_of(given->head[2]);
+    tally.refused_6 = count_of(given->head[3]);
+    tally.smallest = given->head[4];
+    tally.total = given->head[5];
+    return lend(MEMORY, "tally", &tally, sizeof tally);
+}
+
+/* Zeros but for some counts, which stand behind their places. */
+static uint32_t *lend_table(size_t length, const int64_t *pairs, size_t many)
+{
+    static uint32_t counts[LONGEST_TABLE];
+    if (length > LONGEST_TABLE)
+        fail("too long a table after ", "count");
+    memset(counts, 0, sizeof counts);
+    for (size_t i = 0; i < many; i++) {
+        int64_t place = pairs[2 * i], count = pairs[2 * i + 1];
+        if (place < 0 || (uint64_t)place >= length || count < 0)
+            fail("no place or no count of the table after ", "count");
+        counts[place] = (uint32_t)count;
+    }
+    return lend(MEMORY, "counts", counts, length * sizeof *counts);
+}
+
+static void print_tally(const struct garthumor_tally *tally)
+{
+    print_number(tally->read);
+    print_number(tally->accepted);
+    print_number(tally->refused_2);
+    print_number(tally->refused_6);
+    printf(" %" PRIu64 " %" PRIu64, tally->smallest, tally->total);
+}
+
+/* Behind the tally's heads: how long the table is, and how many of its counts are given; these come
+ * first, and then the reading. */
+static void replay_count(const struct given *given)
+{
+    size_t length = given->head[6], many = given->head[7];
+    if (many > given->count / 2)
+        fail("too few numbers after ", "count");
+    struct garthumor_tally *tally = lend_tally(given);
+    uint32_t *counts = lend_table(length, given->numbers, many);
+    const int32_t *reading = lend_confidences("reading", given->numbers + 2 * many, given->count - 2 * many);
+    if (settle(garthumor_count(tally, counts, length, reading, given->count - 2 * many)) == BROKEN)
+        return;
+    printf(" |");
+    print_tally(tally);
+    printf(" |");
+    for (size_t place = 0; place < length; place++)
+        if (counts[place] != 0)
+            printf(" %zu %" PRIu32, place, counts[place]);
+}
+
 static const struct call calls[] = {
     { "encode", 1, UINT32_MAX, 0, 0, 0, replay_encode },
     { "read", 1, UINT32_MAX, 0, 0, 0, replay_read },
@@ -246,6 +314,7 @@ static const struct call calls[] = {
     { "soft", 0, 0, MOST_NUMBERS, INT32_MIN, INT32_MAX, replay_soft },
     { "quick", 0, 0, MOST_NUMBERS, INT32_MIN, INT32_MAX, replay_quick },
     { "better", 2, UINT64_MAX, MOST_NUMBERS, INT32_MIN, INT32_MAX, replay_better },
+    { "count", 8, UINT64_MAX, MOST_NUMBERS, INT32_MIN, UINT32_MAX, replay_count },
 };
 
 static const struct call *call_named(const char *name)

@@ -36,7 +36,7 @@ fn confidences(reading: &[i32]) -> Vec<u8> {
 
 /// All that is printed, with the line feed of the last line.
 pub fn output(code: &Code, capture: &[u8]) -> String {
-    let (records, stop) = records_of(capture);
+    let (records, _) = records_of(capture);
     let mut lines = String::from("message reserve\n");
     let mut previous = None;
     for record in &records {
@@ -48,11 +48,23 @@ pub fn output(code: &Code, capture: &[u8]) -> String {
         }
         lines += "\n";
     }
-    if let Some(refusal) = stop {
-        let start: usize = records.iter().map(|record| record.len()).sum();
-        lines += &format!("stopped {} at {start}\n", refusal as u8);
+    if let Some(stopped) = stopped(capture) {
+        lines += &format!("{stopped}\n");
     }
     lines
+}
+
+/// What is told where the run stops (13.5).
+pub fn stopped(capture: &[u8]) -> Option<String> {
+    let (records, stop) = records_of(capture);
+    let start: usize = records.iter().map(|record| record.len()).sum();
+    stop.map(|refusal| format!("stopped {} at {start}", refusal as u8))
+}
+
+/// The readings of all records, of both kinds.
+pub fn readings(capture: &[u8]) -> Vec<Vec<i32>> {
+    let (records, _) = records_of(capture);
+    records.into_iter().map(reading_of).collect()
 }
 
 /// Where the records of a capture start, and last where the run ends or stops.

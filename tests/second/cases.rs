@@ -8,6 +8,7 @@ mod receivers;
 pub mod refusals;
 mod sharp;
 mod soft;
+mod tally;
 
 use crate::chance::Chance;
 use crate::code::{Code, POSITIONS, WORDS};
@@ -27,6 +28,7 @@ pub enum Kind {
     Soft,
     Quick,
     Receivers,
+    Tally,
 }
 
 /// The sample of the fixed cases is random too, from this seed.
@@ -41,6 +43,7 @@ impl Kind {
             "soft" => Some(Kind::Soft),
             "quick" => Some(Kind::Quick),
             "receivers" => Some(Kind::Receivers),
+            "tally" => Some(Kind::Tally),
             _ => None,
         }
     }
@@ -54,6 +57,7 @@ impl Kind {
             Kind::Soft => soft::seeded(code, chance),
             Kind::Quick => Ok(quick::seeded(code, chance)),
             Kind::Receivers => Ok(receivers::seeded(code, chance)),
+            Kind::Tally => Ok(tally::seeded(code, chance)),
         }
     }
 
@@ -66,6 +70,7 @@ impl Kind {
             Kind::Soft => soft::fixed(code, chance),
             Kind::Quick => Ok(quick::fixed(code, chance)),
             Kind::Receivers => Ok(receivers::fixed(code, chance)),
+            Kind::Tally => Ok(tally::fixed(code, chance)),
         }
     }
 }

@@ -18,6 +18,7 @@ pub enum Refusal {
     NoMark = 9,
     CutShort = 10,
     ClassAbove = 11,
+    CountFull = 12,
     NoColumn = 18,
 }
 
@@ -54,7 +55,7 @@ fn word_in_range(word: u32) -> Result<u32, Refusal> {
     }
 }
 
-fn length_is(length: usize, wanted: usize) -> Result<(), Refusal> {
+pub fn length_is(length: usize, wanted: usize) -> Result<(), Refusal> {
     if length == wanted {
         Ok(())
     } else {

@@ -2,6 +2,8 @@
 
 use crate::code::Code;
 use crate::decoders::{self, Refusal};
+use crate::tally::{Table, Tally, COUNTS};
+use std::collections::BTreeMap;
 use std::fmt::{self, Display, Formatter};
 use std::str::FromStr;
 
@@ -27,7 +29,12 @@ pub enum Case {
     Quick(Vec<i32>),
     /// A reading's number and the buffers of two receivers.
     Better(u64, Vec<i32>, Vec<i32>),
+    /// The tally and the table of counts before the call, and a reading.
+    Count(Tally, Table, Vec<i32>),
 }
+
+/// No case has a longer table of counts.
+const LONGEST_TABLE: usize = 2 * COUNTS;
 
 pub fn spaced<T: Display>(numbers: &[T]) -> String {
     numbers.iter().map(|number| format!(" {number}")).collect()
@@ -59,8 +66,28 @@ impl Display for Case {
                 let (length, first, second) = (first.len(), spaced(first), spaced(second));
                 write!(f, "better {number} {length}{first}{second}")
             }
+            // Of the table: its length, how many of its counts aren't 0, and each of these behind
+            // its place.
+            Case::Count(tally, table, reading) => {
+                let (length, many) = (table.length, table.counts.len());
+                let (tally, counts) = (tally_line(tally), counts_line(table));
+                write!(f, "count{tally} {length} {many}{counts}{}", spaced(reading))
+            }
         }
     }
+}
+
+/// A 0 stands for no smallest (18.1).
+fn tally_line(tally: &Tally) -> String {
+    let counts = [tally.read, tally.accepted, tally.refused_2, tally.refused_6];
+    spaced(&counts) + &spaced(&[tally.smallest.unwrap_or(0), tally.total])
+}
+
+fn counts_line(table: &Table) -> String {
+    let pairs = table.counts.iter();
+    pairs
+        .map(|(place, count)| format!(" {place} {count}"))
+        .collect()
 }
 
 fn number<T: FromStr + Display>(text: &str) -> Result<T, String> {
@@ -89,6 +116,45 @@ fn first_and_rest<'a, 'b, T: FromStr + Display>(
         [first, rest @ ..] => Ok((number(first)?, rest)),
         [] => Err("a number is missing".to_string()),
     }
+}
+
+fn tally_and_rest<'a, 'b>(texts: &'b [&'a str]) -> Result<(Tally, &'b [&'a str]), String> {
+    let (read, rest) = first_and_rest(texts)?;
+    let (accepted, rest) = first_and_rest(rest)?;
+    let (refused_2, rest) = first_and_rest(rest)?;
+    let (refused_6, rest) = first_and_rest(rest)?;
+    let (smallest, rest) = first_and_rest(rest)?;
+    let (total, rest) = first_and_rest(rest)?;
+    let tally = Tally {
+        read,
+        accepted,
+        refused_2,
+        refused_6,
+        smallest: Some(smallest).filter(|&smallest| smallest != 0),
+        total,
+    };
+    Ok((tally, rest))
+}
+
+/// One spelling a table: its places ascend, and no count among them is 0.
+fn table_and_rest<'a, 'b>(texts: &'b [&'a str]) -> Result<(Table, &'b [&'a str]), String> {
+    let (length, rest) = first_and_rest(texts)?;
+    let (many, mut rest) = first_and_rest::<usize>(rest)?;
+    if length > LONGEST_TABLE {
+        return Err(format!("a table of more than {LONGEST_TABLE} counts"));
+    }
+    let mut counts = BTreeMap::new();
+    for _ in 0..many {
+        let (place, behind) = first_and_rest(rest)?;
+        let (count, behind) = first_and_rest(behind)?;
+        let ascends = counts.keys().last().map_or(true, |&last| last < place);
+        if !ascends || place >= length || count == 0 {
+            return Err(format!("'{place} {count}' is no next count of the table"));
+        }
+        counts.insert(place, count);
+        rest = behind;
+    }
+    Ok((Table { length, counts }, rest))
 }
 
 impl Case {
@@ -130,6 +196,11 @@ impl Case {
                 let (first, second) = rest.split_at(length);
                 Ok(Case::Better(number, numbers(first)?, numbers(second)?))
             }
+            "count" => {
+                let (tally, rest) = tally_and_rest(texts)?;
+                let (table, rest) = table_and_rest(rest)?;
+                Ok(Case::Count(tally, table, numbers(rest)?))
+            }
             _ => Err(format!("'{call}' is no call")),
         }
     }
@@ -166,11 +237,16 @@ impl Case {
             }
             Case::WriteBytes(word, bytes) => {
                 let mut lent = bytes.clone();
-                lending_line(code.write_bytes(*word, &mut lent), &lent)
+                lending_line(code.write_bytes(*word, &mut lent), &spaced(&lent))
             }
             Case::Candidates(word, slots) => {
                 let mut lent = slots.clone();
-                lending_line(code.candidates(*word, &mut lent), &lent)
+                lending_line(code.candidates(*word, &mut lent), &spaced(&lent))
+            }
+            Case::Count(tally, table, reading) => {
+                let (mut tally, mut counts) = (tally.clone(), table.whole());
+                let counted = code.count(&mut tally, &mut counts, reading);
+                lending_line(counted, &lent_line(&tally, &Table::of(&counts)))
             }
         }
     }
@@ -184,11 +260,16 @@ fn line_of<T: Display>(answer: Result<T, Refusal>) -> String {
 }
 
 /// A call that lends memory has no other value, so its line ends in the memory's later contents.
-fn lending_line<T: Display>(answer: Result<(), Refusal>, lent: &[T]) -> String {
+fn lending_line(answer: Result<(), Refusal>, lent: &str) -> String {
     match answer {
-        Ok(()) => format!("answered |{}", spaced(lent)),
-        Err(refusal) => format!("refused {} |{}", refusal as u8, spaced(lent)),
+        Ok(()) => format!("answered |{lent}"),
+        Err(refusal) => format!("refused {} |{lent}", refusal as u8),
     }
+}
+
+/// The lent memory of a case of counting as an answer line has it.
+pub fn lent_line(tally: &Tally, table: &Table) -> String {
+    format!("{} |{}", tally_line(tally), counts_line(table))
 }
 
 /// The lines of a text; a line feed ends a line, and the last line may lack it.

@@ -15,7 +15,11 @@ mod line;
 mod numbers;
 mod parts;
 mod readings;
+mod runs;
 mod samples;
+mod sheet;
+mod sheets;
+mod tally;
 #[cfg(test)]
 mod tests;
 mod words;
@@ -25,6 +29,7 @@ use code::Code;
 use compare::Report;
 use line::Case;
 use samples::Sample;
+use sheet::{stop_line, History};
 use std::fs;
 use std::io::{self, BufWriter, Read, Write};
 use std::process::exit;
@@ -43,8 +48,12 @@ const USAGE: &str =
        second captures SEED PROGRAM [WORD..]
                                      runs a capture program on captures that a seed gives, and
                                      compares what it writes with its own
+       second sheet FILE..           prints what the report program must print for files
+       second sheets SEED PROGRAM [WORD..]
+                                     runs a report program on captures that a seed gives, and
+                                     compares what it writes with its own
        second seed                   prints a fresh seed
-KIND is golay, hard, favours, soft, quick or receivers;
+KIND is golay, hard, favours, soft, quick, receivers or tally;
 SAMPLE is decent, weak, damaged or numbered; SEED is a decimal number below 2^64";
 
 enum Failure {
@@ -105,9 +114,10 @@ fn run(words: &[&str], out: &mut dyn Write) -> Result<(), Failure> {
         ["captures", seed, program @ ..] if !program.is_empty() => {
             print_report(&captures::compare(&code, seed_of(seed)?, program)?, out)
         }
-        ["capture", file] => {
-            let bytes = fs::read(file).map_err(|reason| format!("{file}: {reason}"))?;
-            print_text(&capture::output(&code, &bytes), out)
+        ["capture", file] => print_text(&capture::output(&code, &bytes_of(file)?), out),
+        ["sheet", files @ ..] if !files.is_empty() => print_sheet(&code, files, out),
+        ["sheets", seed, program @ ..] if !program.is_empty() => {
+            print_report(&sheets::compare(&code, seed_of(seed)?, program)?, out)
         }
         ["sample", name, seed] => {
             let sample = Sample::named(name).ok_or(Failure::Usage)?;
@@ -124,6 +134,10 @@ fn kind_named(name: &str) -> Result<Kind, Failure> {
 
 fn seed_of(text: &str) -> Result<u64, Failure> {
     text.parse().map_err(|_| Failure::Usage)
+}
+
+fn bytes_of(file: &str) -> Result<Vec<u8>, String> {
+    fs::read(file).map_err(|reason| format!("{file}: {reason}"))
 }
 
 fn cases_of_standard_input() -> Result<Vec<Case>, String> {
@@ -150,6 +164,17 @@ fn print_report(report: &Report, out: &mut dyn Write) -> Result<(), Failure> {
     } else {
         Err(Failure::Disagreement)
     }
+}
+
+/// The lines of captures that stop go to standard error, as the report program's do.
+fn print_sheet(code: &Code, files: &[&str], out: &mut dyn Write) -> Result<(), Failure> {
+    let mut history = History::default();
+    for file in files {
+        let bytes = bytes_of(file)?;
+        history.take_in(code, &bytes);
+        eprint!("{}", stop_line(file, &bytes));
+    }
+    print_text(&history.sheet(), out)
 }
 
 fn print_all(

@@ -2,6 +2,8 @@
 //!
 //! Built by `rustc -O --test --edition 2021 -o target/second-tests tests/second/main.rs`.
 
+mod tally;
+
 use crate::capture;
 use crate::captures::{trials, TRIALS};
 use crate::cases::{equal, patterns, refusals, Kind};
@@ -12,7 +14,7 @@ use crate::code::{
 };
 use crate::compare::compare;
 use crate::decoders::for_interpretations;
-use crate::line::{cases_of, spaced, Case};
+use crate::line::{cases_of, lent_line, spaced, Case};
 use crate::parts;
 use crate::readings::KINDS;
 use crate::samples::Sample;
@@ -196,6 +198,7 @@ fn refused_line(number: u8, case: &Case) -> String {
     match case {
         Case::WriteBytes(_, lent) => format!("refused {number} |{}", spaced(lent)),
         Case::Candidates(_, lent) => format!("refused {number} |{}", spaced(lent)),
+        Case::Count(tally, table, _) => format!("refused {number} |{}", lent_line(tally, table)),
         _ => format!("refused {number}"),
     }
 }
@@ -209,6 +212,7 @@ fn earlier_refusals_come_first() {
         refusals::favours,
         refusals::soft,
         refusals::quick,
+        refusals::tally,
     ] {
         for (number, case) in rows() {
             let line = case.answer_line(&code);
@@ -458,6 +462,7 @@ fn case_lines_come_back_as_they_were() {
         Kind::Soft,
         Kind::Quick,
         Kind::Receivers,
+        Kind::Tally,
     ] {
         for case in kind.fixed(&code).expect("fixed cases") {
             assert_eq!(Case::from_line(&case.to_string()), Ok(case));
@@ -506,6 +511,21 @@ fn malformed_lines_are_named() {
         "better 0 1",
         "better -1 0",
         "better 18446744073709551616 0",
+        "count",
+        "count 0 0 0 0 0 0",
+        "count 0 0 0 0 0 0 4096",
+        "count 4294967296 0 0 0 0 0 4096 0",
+        "count 0 0 0 0 0 18446744073709551616 4096 0",
+        "count 0 0 0 0 -1 0 4096 0",
+        "count 0 0 0 0 0 0 8193 0",
+        "count 0 0 0 0 0 0 4096 1",
+        "count 0 0 0 0 0 0 4096 1 0",
+        "count 0 0 0 0 0 0 4096 1 0 0",
+        "count 0 0 0 0 0 0 4096 1 4096 1",
+        "count 0 0 0 0 0 0 4096 2 1 1 0 1",
+        "count 0 0 0 0 0 0 4096 2 1 1 1 1",
+        "count 0 0 0 0 0 0 4096 1 0 4294967296",
+        "count 0 0 0 0 0 0 4096 0 2147483648",
     ];
     for line in malformed {
         assert!(Case::from_line(line).is_err(), "{line:?}");

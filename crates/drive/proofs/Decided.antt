@@ -18,6 +18,8 @@ use Rattle.quick.specs.Quick.{QuickRule}
 use Rattle.quick.proofs.Rules.{quick-once}
 use Rattle.receivers.specs.Calls.{Chooses}
 use Rattle.receivers.proofs.Decided.{choice-once}
+use Rattle.tally.specs.Tally.{Counts}
+use Rattle.tally.proofs.Decided as tally
 use Rattle.hands.specs.Hands.{HandsBack, HandsBackOne, itself}
 use Rattle.hands.proofs.Hands.{hands-decided, hands-one-decided}
 use Rattle.onwords.specs.Outputs.{HandsBackCandidates}
@@ -64,6 +66,10 @@ quick-decided reading before after later status other = hands-one-decided (quick
 pub better-decided : (first second : List ℤ) (number choice other : ℕ)
     → Chooses first second number choice → Chooses first second number other → choice ≡ other
 better-decided first second number choice other = choice-once
+
+-- tally and table are read and written
+pub count-decided : (reading : List ℤ) → Decided (Counts reading)
+count-decided reading before after later status other = tally.count-decided
 
 -- the buffer's contents before the call decide the answer too
 pub writeBytes-decided :

@@ -7,9 +7,11 @@ ghost use Rattle.favours.specs.Calls.{columnFigureRule};
 ghost use Rattle.soft.specs.Calls.{ClassFigureRule, SoftRule};
 ghost use Rattle.quick.specs.Quick.{QuickRule};
 ghost use Rattle.receivers.specs.Calls.{Chooses};
+ghost use Rattle.tally.specs.Tally.{totals, Counts};
 ghost use Rattle.hands.specs.Hands.{HandsBack, HandsBackOne, itself};
 ghost use Rattle.onwords.specs.Outputs.{finding, correction, HandsBackCandidates};
 ghost use Rattle.onreadings.specs.Outputs.{values};
+use tally::kinds::Tally;
 
 #[no_mangle]
 pub extern "C" fn garthumor_encode(message: u32, codeword: &mut u32) -> u8
@@ -104,6 +106,13 @@ pub extern "C" fn garthumor_better(first: &[i32], second: &[i32], number: usize)
     ensures { λ r. ⌜ Chooses (now (first .entry)) (now (second .entry)) number r ⌝ }
 {
     onreadings::better(first, second, number)
+}
+
+#[no_mangle]
+pub extern "C" fn garthumor_count(tally: &mut Tally, counts: &mut [u32], reading: &[i32]) -> u8
+    ensures { λ r. ⌜ Counts (now (reading .entry)) (totals (now (tally .entry)) (now (counts .entry))) (totals (now (tally .exit)) (now (counts .exit))) r ⌝ }
+{
+    tally::count(tally, counts, reading)
 }
 
 #[no_mangle]

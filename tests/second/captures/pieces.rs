@@ -1,15 +1,16 @@
 //! Captures of which the program gets no more than a piece at a time: longer than what it reads at
 //! once, or through a pipe.
 
-use super::child::{Input, Pieces};
+use super::input::Input;
 use super::records::{records, records_of_numbers, UNEVEN};
 use super::trials::{trial, with_byte, Trial, WHOLE};
 use crate::capture::{starts, HEAD, NEW_MARK, NEW_RECORD, OLD_RECORD};
 use crate::chance::Chance;
 use crate::code::Code;
+use crate::runs::child::Pieces;
 
 /// The program reads 64 KiB at a time; these many old records are whole in them.
-const PIECE: usize = 65_536;
+pub const PIECE: usize = 65_536;
 const RECORDS_IN_A_PIECE: usize = PIECE / OLD_RECORD;
 
 /// Lengths of pieces that come through a pipe: a byte, and about a record.

@@ -1,7 +1,7 @@
 //! The captures that the program is tried on, and how it gets each.
 
-use super::child::{Input, Pieces};
 use super::damage::damaged;
+use super::input::Input;
 use super::pieces::in_pieces;
 use super::records::{records, records_of_numbers, UNEVEN};
 use crate::capture::{new_record, old_record, starts, NEW_MARK, OLD_MARK};
@@ -10,6 +10,7 @@ use crate::code::{Code, MESSAGES, POSITIONS};
 use crate::decoders::FORBIDDEN;
 use crate::numbers::after;
 use crate::readings::{speaking_for, MOST};
+use crate::runs::child::Pieces;
 
 pub struct Trial {
     /// No two have the same name: it names the file.
@@ -231,10 +232,14 @@ fn steps(code: &Code, chance: &mut Chance) -> Vec<Trial> {
 }
 
 fn fuzzed(code: &Code, chance: &mut Chance, i: usize) -> Trial {
+    let bytes = damaged_records(code, chance);
+    trial(format!("fuzzed-{i}"), &bytes, WHOLE[i % WHOLE.len()])
+}
+
+pub fn damaged_records(code: &Code, chance: &mut Chance) -> Vec<u8> {
     let many = chance.between(1, 6) as usize;
     let new = chance.below(many as u64 + 1) as usize;
     let capture = records(code, chance, many - new, new);
     let other = records(code, chance, 1, 1);
-    let bytes = damaged(chance, &capture, &other);
-    trial(format!("fuzzed-{i}"), &bytes, WHOLE[i % WHOLE.len()])
+    damaged(chance, &capture, &other)
 }

@@ -5,6 +5,7 @@ use super::{of_length, ones, quick, with_confidence, zeros};
 use crate::code::POSITIONS;
 use crate::decoders::FORBIDDEN;
 use crate::line::Case;
+use crate::tally::{Table, Tally, COUNTS, MOST_COUNT, MOST_TOTAL};
 
 const CODEWORD: u32 = 0xFF_FFFF;
 const NO_CODEWORD: u32 = 0xFF_FFFE;
@@ -150,4 +151,53 @@ pub fn soft() -> Vec<Row> {
 
 pub fn quick() -> Vec<Row> {
     of_readings(Case::Quick, 0, &quick::tied(), 6)
+}
+
+/// A tally with all counts at a number, and a table with the first one and the last there.
+fn at(count: u32, total: u64, length: usize) -> (Tally, Table) {
+    let tally = Tally {
+        read: count,
+        accepted: count,
+        refused_2: count,
+        refused_6: count,
+        smallest: None,
+        total,
+    };
+    let mut counts = vec![0; length];
+    for place in [0, length.wrapping_sub(1)] {
+        counts.get_mut(place).map(|place| *place = count);
+    }
+    (tally, Table::of(&counts))
+}
+
+/// The lengths of table and reading, and counts at their end, where soft accepts the reading with the
+/// reserve 8, refuses it with 6 and with 2.
+pub fn tally() -> Vec<Row> {
+    let forbidden = with_confidence(&ones(), 11, FORBIDDEN);
+    let mut rows = Vec::new();
+    let mut row = |table: usize, reading: Vec<i32>, count: u32, total: u64, full: bool| {
+        let lengths_hold = table == COUNTS && reading.len() == POSITIONS;
+        let number = match (lengths_hold, full) {
+            (false, _) => 1,
+            (true, full) => 12 * u8::from(full),
+        };
+        let (tally, table) = at(count, total, table);
+        rows.push((number, Case::Count(tally, table, reading)));
+    };
+    for table in [0, 1, COUNTS - 1, COUNTS, COUNTS + 1] {
+        for length in [0, 23, 24, 25] {
+            for reading in [ones(), zeros(), forbidden.clone()] {
+                let reading = of_length(&reading, length);
+                for count in [0, MOST_COUNT - 1, MOST_COUNT] {
+                    row(table, reading.clone(), count, 0, count == MOST_COUNT);
+                }
+            }
+        }
+        for total in [MOST_TOTAL - 8, MOST_TOTAL - 7, MOST_TOTAL, u64::MAX] {
+            row(table, ones(), 0, total, total != MOST_TOTAL - 8);
+            row(table, zeros(), 0, total, false);
+            row(table, forbidden.clone(), 0, total, false);
+        }
+    }
+    rows
 }
