@@ -16,7 +16,7 @@ PAIRS = {"crates/drive/src/lib.rt": "include/garthumor.h", "crates/trial/src/lib
 
 NUMBERS = {"u8": "uint8_t", "u16": "uint16_t", "u32": "uint32_t", "u64": "uint64_t", "i32": "int32_t", "i64": "int64_t", "usize": "size_t"}
 # A struct of the source, the file that has it, and what C calls it.
-STRUCTS = {"Tally": ("crates/tally/src/kinds.rt", "struct garthumor_tally")}
+STRUCTS = {"Tally": ("crates/totals/src/kinds.rt", "struct garthumor_tally")}
 TYPES = NUMBERS | {name: called for name, (_, called) in STRUCTS.items()}
 LENGTH = "(length)"
 

@@ -16,7 +16,7 @@ use Rattle.hands.specs.Hands.{output, itself}
 use Rattle.records.specs.Records.{twosComplement, confidencesOf, standing}
 use Rattle.records.specs.Capture.{runIn}
 use Rattle.records.specs.Worked.{workedCapture}
-use Rattle.tally.specs.Tally.{Totals, totals, empty, withAccepted, withTied, countRule}
+use Rattle.tally.specs.Counts.{Totals, totals, empty, countRule}
 use Rattle.tally.specs.History.{tallied}
 use Rattle.tally.proofs.Rules.{table-right}
 use Rattle.sheet.specs.Sheet.{countLines, messageLines, reserveLines, sheet}

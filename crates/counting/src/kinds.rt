@@ -1,5 +1,5 @@
 // What counting the records of a capture answers.
-use tally::kinds::Tally;
+use totals::kinds::Tally;
 
 // The tally after a run over bytes of a capture; the number that the run stopped with, 9 or 10, or 0 where it did not; and how many bytes it
 // came through.

@@ -1,6 +1,6 @@
 // The run over bytes of a capture that counts the reading of each record, of either kind; and a turn of it over the bytes that are held of a
 // capture that comes in pieces.
-ghost use Rattle.tally.specs.Tally.{totals};
+ghost use Rattle.tally.specs.Counts.{totals};
 ghost use Rattle.counting.specs.Counting.{CountsRun, CountsTurn};
 
 pub mod kinds;
@@ -8,7 +8,7 @@ pub mod kinds;
 use kinds::Counted;
 use kinds::CountedTurn;
 use records::kinds::Stands;
-use tally::kinds::Tally;
+use totals::kinds::Tally;
 
 // The run over the last bytes of the input, or over others. A record that can't be counted is passed over.
 pub fn count_records(bytes: &[u8], last: bool, t: Tally, table: &mut [u32]) -> Counted

@@ -18,7 +18,7 @@ use Rattle.quick.specs.Quick.{QuickRule}
 use Rattle.quick.proofs.Rules.{quick-once}
 use Rattle.receivers.specs.Calls.{Chooses}
 use Rattle.receivers.proofs.Decided.{choice-once}
-use Rattle.tally.specs.Tally.{Counts}
+use Rattle.tally.specs.Counts.{Counts}
 use Rattle.tally.proofs.Decided as tally
 use Rattle.hands.specs.Hands.{HandsBack, HandsBackOne, itself}
 use Rattle.hands.proofs.Hands.{hands-decided, hands-one-decided}

@@ -7,11 +7,11 @@ ghost use Rattle.favours.specs.Calls.{columnFigureRule};
 ghost use Rattle.soft.specs.Calls.{ClassFigureRule, SoftRule};
 ghost use Rattle.quick.specs.Quick.{QuickRule};
 ghost use Rattle.receivers.specs.Calls.{Chooses};
-ghost use Rattle.tally.specs.Tally.{totals, Counts};
+ghost use Rattle.tally.specs.Counts.{totals, Counts};
 ghost use Rattle.hands.specs.Hands.{HandsBack, HandsBackOne, itself};
 ghost use Rattle.onwords.specs.Outputs.{finding, correction, HandsBackCandidates};
 ghost use Rattle.onreadings.specs.Outputs.{values};
-use tally::kinds::Tally;
+use totals::kinds::Tally;
 
 #[no_mangle]
 pub extern "C" fn garthumor_encode(message: u32, codeword: &mut u32) -> u8

@@ -18,7 +18,7 @@ use outside::write_text;
 use sheet::MESSAGE_LINE;
 use sheet::OTHER_LINES;
 use tally::TABLE;
-use tally::kinds::Tally;
+use totals::kinds::Tally;
 
 // The most bytes that a sheet takes.
 const SHEET: usize = OTHER_LINES + TABLE * MESSAGE_LINE;

@@ -6,7 +6,7 @@ use Prim.Native.Nat.{ℕ}
 use lib.IntN.{ℤ}
 use Rattle.decoding.proofs.Decoding.{a-decoder}
 use Rattle.hands.proofs.Hands.{hands-decided}
-use Rattle.tally.specs.Tally.{Totals, Counts}
+use Rattle.tally.specs.Counts.{Totals, Counts}
 
 pub count-decided :
     {xs : List ℤ} {before after later : Totals} {status other : ℕ}

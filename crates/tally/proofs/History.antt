@@ -16,7 +16,9 @@ use Rattle.golay.specs.Answers.{Answer, accepted, refused, refuse}
 use Rattle.decoding.specs.Decoding.{Decoder}
 use Rattle.decoding.proofs.Decoding.{Possible, taken, wrong-length, most-negative, tied, decoder-possible}
 use Rattle.hands.specs.Hands.{output, itself}
-use Rattle.tally.specs.Tally.{Totals, empty, countPast, withAccepted, withMostNegative, withTied, acceptedFull, answerRule, countRule}
+use Rattle.totals.specs.declared.kinds.Tally.{Tally}
+use Rattle.totals.specs.Totals.{countPast, withAccepted, withMostNegative, withTied, acceptedFull}
+use Rattle.tally.specs.Counts.{Totals, totals, empty, withTable, answerRule, countRule}
 use Rattle.tally.specs.History.{whereCounted, tallied, countedAnswers, isAccepted, isAcceptedFor, isRefusedWith, howMany, reserves, Among, AddsUp}
 use Rattle.tally.proofs.Lists.{howMany-more, reserves-more, total-more, total-zeros, total-raised, smallest-more}
 use Rattle.tally.proofs.Rules.{table-right}
@@ -72,7 +74,7 @@ module _ (answers : List (Answer (ℕ × ℕ))) (T : Totals) (W : Whole answers 
         ∙ A .each k h
         ∙ (omega arith)
 
-    accepted-whole : Whole (answers ++ (a ∷ [])) (withAccepted T m ρ)
+    accepted-whole : Whole (answers ++ (a ∷ [])) (totals (withAccepted (T .tally) ρ) (set (T .table) m (getD (T .table) m 0 + 1)))
     accepted-whole = record {
       adds = record {
         read-is = omega (arith, A .read-is, long-more a);
@@ -91,7 +93,7 @@ module _ (answers : List (Answer (ℕ × ℕ))) (T : Totals) (W : Whole answers 
   each-same : (n k : ℕ) → k < messages → getD (T .table) k 0 ≡ howMany (isAcceptedFor k) (answers ++ (refused n ∷ []))
   each-same n k h = let e = howMany-more (isAcceptedFor k) answers (refused n) in omega (arith, A .each k h, e)
 
-  most-negative-whole : Whole (answers ++ (refused 2 ∷ [])) (withMostNegative T)
+  most-negative-whole : Whole (answers ++ (refused 2 ∷ [])) (totals (withMostNegative (T .tally)) (T .table))
   most-negative-whole = record {
     adds = record {
       read-is = omega (arith, A .read-is, long-more (refused 2));
@@ -107,7 +109,7 @@ module _ (answers : List (Answer (ℕ × ℕ))) (T : Totals) (W : Whole answers 
     long = W .long;
   }
 
-  tied-whole : Whole (answers ++ (refused 6 ∷ [])) (withTied T)
+  tied-whole : Whole (answers ++ (refused 6 ∷ [])) (totals (withTied (T .tally)) (T .table))
   tied-whole = record {
     adds = record {
       read-is = omega (arith, A .read-is, long-more (refused 6));
@@ -128,19 +130,24 @@ module _ (answers : List (Answer (ℕ × ℕ))) (T : Totals) (W : Whole answers 
   left-whole = rw (append-nil answers) W
 
   -- one that is, unless something is full
-  unless-full : (U : Totals) (a : Answer (ℕ × ℕ)) (full : Bool)
-      → Whole (answers ++ (a ∷ [])) U
-      → let r = refuse CountFull full (accepted U) in
+  unless-full : (u : Tally) (table : List ℕ) (a : Answer (ℕ × ℕ)) (full : Bool)
+      → Whole (answers ++ (a ∷ [])) (totals u table)
+      → let r = withTable table (refuse CountFull full (accepted u)) in
       Whole (answers ++ whereCounted r a) (output itself r T)
-  unless-full U a true more = left-whole
-  unless-full U a false more = more
+  unless-full u table a true more = left-whole
+  unless-full u table a false more = more
 
   answer-whole : (a : Answer (ℕ × ℕ)) → Possible a → Whole (answers ++ whereCounted (answerRule T a) a) (output itself (answerRule T a) T)
-  answer-whole a (taken m ρ known positive) = unless-full (withAccepted T m ρ) (accepted (m, ρ)) (acceptedFull (T .tally) (getD (T .table) m 0) ρ)
+  answer-whole a (taken m ρ known positive) =
+      let count = getD (T .table) m 0 in
+      unless-full (withAccepted (T .tally) ρ) (set (T .table) m (count + 1)) (accepted (m, ρ)) (acceptedFull (T .tally) count ρ)
       (accepted-whole m ρ known positive)
   answer-whole a wrong-length = left-whole
-  answer-whole a most-negative = unless-full (withMostNegative T) (refused 2) (countPast (T .tally .read + 1) || countPast (T .tally .«refused_2» + 1)) most-negative-whole
-  answer-whole a tied = unless-full (withTied T) (refused 6) (countPast (T .tally .read + 1) || countPast (T .tally .«refused_6» + 1)) tied-whole
+  answer-whole a most-negative =
+      unless-full (withMostNegative (T .tally)) (T .table) (refused 2) (countPast (T .tally .read + 1) || countPast (T .tally .«refused_2» + 1))
+      most-negative-whole
+  answer-whole a tied =
+      unless-full (withTied (T .tally)) (T .table) (refused 6) (countPast (T .tally .read + 1) || countPast (T .tally .«refused_6» + 1)) tied-whole
 
   pub count-whole : (a : Answer (ℕ × ℕ)) → Possible a → Whole (answers ++ whereCounted (countRule T a) a) (output itself (countRule T a) T)
   count-whole a p = rw (table-right T a (W .long)) (answer-whole a p)

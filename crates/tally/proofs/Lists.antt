@@ -11,7 +11,7 @@ use lib.ListN.{length, getD, set, replicate, length-append}
 use borrow.Author.Tests.{eqb-true, eqb-false, ltb-true, ltb-false}
 use Rattle.code.specs.Array.{total}
 use Rattle.golay.specs.Answers.{Answer}
-use Rattle.tally.specs.Tally.{smallestWith}
+use Rattle.totals.specs.Totals.{smallestWith}
 use Rattle.tally.specs.History.{howMany, reserveIn, reserves, Among, Smallest}
 
 pub howMany-more :

@@ -31,7 +31,7 @@ use denote.Triple.Call.{calls-at}
 use denote.Triple.Entry.{Args, Vals, alive, onEntry}
 use denote.Triple.Spec.{tripleOf}
 use denote.Triple.Table.{entered, cited}
-use Rattle.tally.proofs.kinds.Tally as T
+use Rattle.totals.proofs.kinds.Tally as T
 use Rattle.tally.proofs.count as count
 use Rattle.tally.proofs.count.Symbol as count-def
 use Rattle.tally.proofs.count.Symbol.{name as #tally·count}

@@ -38,11 +38,11 @@ use denote.Triple.Clauses.{Lasts, atExit, lasts}
 use denote.Triple.Entry.{Args, Vals, alive, onEntry}
 use denote.Triple.Spec.{Back, tripleOf}
 use denote.Triple.Table.{entered, cited}
-use Rattle.tally.specs.declared.kinds.Step.{Step}
-use Rattle.tally.proofs.kinds.Tally as T
-use Rattle.tally.proofs.kinds.Tally.Laws as T′
-use Rattle.tally.proofs.kinds.Step as S
-use Rattle.tally.proofs.kinds.Step.Laws as S′
+use Rattle.totals.specs.declared.kinds.Step.{Step}
+use Rattle.totals.proofs.kinds.Tally as T
+use Rattle.totals.proofs.kinds.Tally.Laws as T′
+use Rattle.totals.proofs.kinds.Step as S
+use Rattle.totals.proofs.kinds.Step.Laws as S′
 use Rattle.tally.proofs.counted as counted
 use Rattle.tally.proofs.counted.Symbol as counted-def
 use Rattle.tally.proofs.counted.Symbol.{name as #tally·counted}

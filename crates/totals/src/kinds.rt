@@ -11,7 +11,7 @@ pub struct Tally {
     pub total: u64,
 }
 
-// A tally after a reading, and 0 where the reading was counted, else the number of the refusal.
+// A tally after a reading, and 0 where that was counted, else the number of the refusal.
 pub struct Step {
     pub tally: Tally,
     pub status: u8,

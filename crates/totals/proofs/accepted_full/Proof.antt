@@ -1,13 +1,13 @@
--- `tally::accepted_full` meets its contract, test by test.
+-- `totals::accepted_full` meets its contract, test by test.
 -- Assumes nothing.
 use mathlib.Core.Bool.{or-true}
 use Prim.Native.Nat.{_+_}
 use borrow.Author.Needs.{needs}
 use native.Mathlib.Omega.{arith}
 use borrow.Author.Tests.{lt-ltb}
-use Rattle.tally.proofs.Rules.{count-full, count-room, total-left}
-use Rattle.tally.proofs.accepted_full.Statement.{statement}
-use Rattle.tally.proofs.accepted_full.Tie as tie
+use Rattle.totals.proofs.Rules.{count-full, count-room, total-left}
+use Rattle.totals.proofs.accepted_full.Statement.{statement}
+use Rattle.totals.proofs.accepted_full.Tie as tie
 
 returns : tie.Need-returns
 returns c = simp (count-full _ (c .if1 .taken))

@@ -1,11 +1,11 @@
--- `tally::kept` meets its contract.
+-- `totals::kept` meets its contract.
 -- Assumes nothing.
 use mathlib.Core.Path.{ap}
 use Prim.Native.Nat.{ℕ}
 use borrow.Author.Needs.{needs}
-use Rattle.tally.specs.declared.kinds.Step.{Step}
-use Rattle.tally.proofs.kept.Statement.{statement}
-use Rattle.tally.proofs.kept.Tie as tie
+use Rattle.totals.specs.declared.kinds.Step.{Step}
+use Rattle.totals.proofs.kept.Statement.{statement}
+use Rattle.totals.proofs.kept.Tie as tie
 
 refusal-number-requires : tie.Need-refusal-number-requires
 refusal-number-requires c κs = search needs

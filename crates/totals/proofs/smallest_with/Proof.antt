@@ -1,8 +1,8 @@
--- `tally::smallest_with` meets its contract, test by test.
+-- `totals::smallest_with` meets its contract, test by test.
 -- Assumes nothing.
 use borrow.Author.Tests.{eq-eqb, ne-eqb, lt-ltb, le-ltb}
-use Rattle.tally.proofs.smallest_with.Statement.{statement}
-use Rattle.tally.proofs.smallest_with.Tie as tie
+use Rattle.totals.proofs.smallest_with.Statement.{statement}
+use Rattle.totals.proofs.smallest_with.Tie as tie
 
 returns : tie.Need-returns
 returns c = simp (eq-eqb _ _ (c .if1 .taken))

@@ -1,33 +1,30 @@
--- `tally::count_tied` meets its contract, test by test.
+-- `totals::count_tied` meets its contract, test by test.
 -- Assumes nothing.
-use mathlib.Core.Path.{_≡_, ap}
 use mathlib.Core.Bool.{or-true, _||_}
-use mathlib.Core.List.{List}
-use Prim.Native.Nat.{ℕ, _+_}
+use Prim.Native.Nat.{_+_}
 use borrow.Author.Needs.{needs}
-use Rattle.tally.specs.declared.kinds.Step.{Step}
-use Rattle.tally.specs.Tally.{totals, countPast, withTied}
-use Rattle.tally.proofs.Rules.{count-full, count-room, kept-full, room-counted}
-use Rattle.tally.proofs.count_tied.Statement.{statement}
-use Rattle.tally.proofs.count_tied.Tie as tie
+use Rattle.totals.specs.Totals.{countPast, withTied}
+use Rattle.totals.proofs.Rules.{count-full, count-room, full-kept, room-moved}
+use Rattle.totals.proofs.count_tied.Statement.{statement}
+use Rattle.totals.proofs.count_tied.Tie as tie
 
 kept-requires : tie.Need-kept-requires
 kept-requires c κs = search needs
 
 returns : tie.Need-returns
-returns c table =
+returns c =
     let t = c .before .before .before .args .t in
     let full = countPast (t .read + 1) || countPast (t .«refused_6» + 1) in
-    kept-full full t table (withTied (totals t table)) (c .kept .ensures) (simp (count-full _ (c .before .if1 .taken)))
+    full-kept full t (withTied t) (c .kept .ensures) (simp (count-full _ (c .before .if1 .taken)))
 
 kept-requires-2 : tie.Need-kept-requires-2
 kept-requires-2 c κs = search needs
 
 returns-2 : tie.Need-returns-2
-returns-2 c table =
+returns-2 c =
     let t = c .before .before .before .before .args .t in
     let full = countPast (t .read + 1) || countPast (t .«refused_6» + 1) in
-    kept-full full t table (withTied (totals t table)) (c .kept2 .ensures) (simp (count-full _ (c .before .if2 .taken), or-true))
+    full-kept full t (withTied t) (c .kept2 .ensures) (simp (count-full _ (c .before .if2 .taken), or-true))
 
 add-tally : tie.Need-add-tally
 add-tally c = search needs
@@ -35,17 +32,21 @@ add-tally c = search needs
 add-tally-2 : tie.Need-add-tally-2
 add-tally-2 c = search needs
 
+moved-requires : tie.Need-moved-requires
+moved-requires c κs = search needs
+
 returns-3 : tie.Need-returns-3
-returns-3 c table =
-    let second = c .before in
+returns-3 c =
+    let second = c .before .before in
     let first = second .before in
     let entered = first .before .before in
     let t = entered .args .t in
     let read = count-room (t .read) (search needs) (first .if1 .left) in
     let count = count-room (t .«refused_6») (search needs) (second .if2 .left) in
-    room-counted (countPast (t .read + 1) || countPast (t .«refused_6» + 1)) (totals t table) (withTied (totals t table)) (simp (read, count))
+    let full = countPast (t .read + 1) || countPast (t .«refused_6» + 1) in
+    room-moved full t (withTied t) (c .moved .ensures) (simp (read, count))
 
 pub count-tied-spec : {M : Type 1} → statement M
 count-tied-spec =
     tie.close
-    (tie.spec kept-requires returns kept-requires-2 returns-2 add-tally add-tally-2 returns-3)
+    (tie.spec kept-requires returns kept-requires-2 returns-2 add-tally add-tally-2 moved-requires returns-3)
