@@ -6,10 +6,10 @@ ghost use Rattle.texts.specs.Texts.{lineFeed, lineOf};
 ghost use Rattle.texts.specs.Buffers.{Puts, Writes};
 ghost use Rattle.tally.specs.Counts.{totals};
 ghost use Rattle.sheet.specs.Sheet.{messageLine, messageLines, countLines, smallestLine, reserveLines, longestMessage, longestCounts, longestReserves, SheetRule};
-use totals::kinds::Tally;
 use texts::write_one;
 use texts::write_text;
 use texts::write_two;
+use totals::kinds::Tally;
 
 // The most bytes that the line of a message takes, and that the other lines take together.
 pub const MESSAGE_LINE: usize = 40;

@@ -63,7 +63,7 @@ loop-again c =
     let at-loop = matched .before .before .before in
     let args = at-loop .before .before .before .args in (
       up-record (args .last) (args .bytes .now) (totals (args .t) (args .table .now)) (at-loop .loop .inv .0) (told matched)
-      (rw (made .confidences .ensures) at (counted .counted .ensures)),
+          (rw (made .confidences .ensures) at (counted .counted .ensures)),
       search needs,
     )
 

@@ -53,8 +53,7 @@ loop-again c =
     let m = at-loop .loop .m in
     let inv = at-loop .loop .inv in
     let room : at-loop .loop .to + longestMessage ≤ length (at-loop .loop .out) = omega (arith, inv .2, inv .3, entered .pre) in
-    let line = writes-puts longestMessage (written .write-message .ensures .1) room (written .write-message .ensures .0) in
-    (
+    let line = writes-puts longestMessage (written .write-message .ensures .1) room (written .write-message .ensures .0) in (
       search needs,
       puts-text (lines-more (args .table .now) m (search needs)) (puts-then (inv .1) line),
       omega (arith, inv .2, line .place, written .write-message .ensures .1),
@@ -69,8 +68,7 @@ returns c =
     let at-loop = c .before in
     let table = at-loop .before .before .before .args .table .now in
     let inv = at-loop .loop .inv in
-    let all : at-loop .loop .m ≡ length table = omega arith in
-    (
+    let all : at-loop .loop .m ≡ length table = omega arith in (
       puts-text (ap (λ (k : ℕ). messageLines 0 (take k table)) all ∙ ap (messageLines 0) (take-length table)) (inv .1),
       omega (arith, inv .2, all),
     )
