@@ -19,7 +19,7 @@ use Rattle.records.specs.Records.{Record, oldLength, newLength, lengthWith, rec
 use Rattle.records.specs.Capture.{runFrom}
 use Rattle.records.proofs.Standing.{whole-front}
 use Rattle.records.proofs.Running.{run-whole}
-use Rattle.tally.specs.Counts.{empty}
+use Rattle.totals.specs.Totals.{empty}
 use Rattle.tally.specs.History.{tallied}
 use Rattle.sheet.specs.Sheet.{sheet}
 use Rattle.counting.specs.Reports.{readings, readingsOf, allReadings, sheetOf}

@@ -16,7 +16,8 @@ use Rattle.hands.specs.Hands.{output, itself}
 use Rattle.records.specs.Records.{twosComplement, confidencesOf, standing}
 use Rattle.records.specs.Capture.{runIn}
 use Rattle.records.specs.Worked.{workedCapture}
-use Rattle.tally.specs.Counts.{Totals, totals, empty, countRule}
+use Rattle.totals.specs.Totals.{Totals, totals, empty}
+use Rattle.tally.specs.Counts.{countRule}
 use Rattle.tally.specs.History.{tallied}
 use Rattle.tally.proofs.Rules.{table-right}
 use Rattle.sheet.specs.Sheet.{countLines, messageLines, reserveLines, sheet}

@@ -18,7 +18,7 @@ use Rattle.records.specs.Capture.{Telling, runAt, runIn, runFrom, Ending, endin
 use Rattle.records.proofs.Standing.{tested}
 use Rattle.records.proofs.Running.{end-near, left-short}
 use Rattle.pieces.proofs.Pieces.{keeps-once}
-use Rattle.tally.specs.Counts.{Totals}
+use Rattle.totals.specs.Totals.{Totals}
 use Rattle.counting.specs.Reports.{Came, came}
 use Rattle.counting.specs.Counting.{CountsRun, CountsTurn}
 

@@ -12,7 +12,7 @@ use Rattle.records.specs.Capture.{runFrom, ending}
 use Rattle.pieces.specs.Pieces.{allPieces, turnsFrom}
 use Rattle.pieces.proofs.Pieces.{pieces-told}
 use Rattle.pieces.proofs.Listed.{goesOn, turns-go}
-use Rattle.tally.specs.Counts.{Totals}
+use Rattle.totals.specs.Totals.{Totals}
 use Rattle.tally.specs.History.{withReading, tallied}
 use Rattle.counting.specs.Reports.{readings, readingsOf, allReadings}
 

@@ -17,7 +17,8 @@ use Rattle.records.specs.Records.{ended, stopped, whole, standsAt, inPiece, nex
 use Rattle.records.specs.Capture.{runFrom}
 use Rattle.records.proofs.Standing.{whole-takes, takes-room}
 use Rattle.records.proofs.Running.{told-ended, told-stopped, told-whole}
-use Rattle.tally.specs.Counts.{Totals, Counts}
+use Rattle.totals.specs.Totals.{Totals}
+use Rattle.tally.specs.Counts.{Counts}
 use Rattle.tally.specs.History.{withReading, tallied}
 use Rattle.counting.specs.Reports.{readings, Came, came}
 use Rattle.counting.specs.Counting.{CountsRun}

@@ -11,7 +11,7 @@ use Rattle.decoding.specs.Decoding.{Decoder}
 use Rattle.sequence.specs.declared.kinds.Number.{Number}
 use Rattle.records.specs.Capture.{runFrom}
 use Rattle.pieces.specs.Pieces.{Keeps}
-use Rattle.tally.specs.Counts.{Totals}
+use Rattle.totals.specs.Totals.{Totals}
 use Rattle.tally.specs.History.{tallied}
 use Rattle.counting.specs.Reports.{readings, Came, came}
 

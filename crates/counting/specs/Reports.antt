@@ -8,7 +8,7 @@ use Rattle.sequence.specs.declared.kinds.Number.{Number}
 use Rattle.sequence.specs.declared.kinds.Number.the-variants.{None}
 use Rattle.records.specs.Records.{Record}
 use Rattle.records.specs.Capture.{Telling, listed, runFrom}
-use Rattle.tally.specs.Counts.{Totals, empty}
+use Rattle.totals.specs.Totals.{Totals, empty}
 use Rattle.tally.specs.History.{tallied}
 use Rattle.sheet.specs.Sheet as sheets
 

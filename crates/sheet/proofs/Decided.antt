@@ -11,7 +11,7 @@ use lib.ListN.{length}
 use borrow.Author.Tests.{leb-true, leb-false}
 use Rattle.texts.specs.Buffers.{Puts}
 use Rattle.texts.proofs.Buffers.{puts-then}
-use Rattle.tally.specs.Counts.{Totals}
+use Rattle.totals.specs.Totals.{Totals}
 use Rattle.sheet.specs.Sheet.{countLines, messageLines, reserveLines, longestCounts, longestMessage, longestReserves, SheetRoom, SheetRule}
 
 module _ (T : Totals) (before : List ℕ) where

@@ -9,7 +9,7 @@ use Rattle.texts.specs.Ascii.{ascii}
 use Rattle.texts.specs.Texts.{lineFeed, lineOf, lineOfTwo}
 use Rattle.texts.specs.Buffers.{Puts}
 use Rattle.totals.specs.declared.kinds.Tally.{Tally}
-use Rattle.tally.specs.Counts.{Totals}
+use Rattle.totals.specs.Totals.{Totals}
 
 -- how many were read, accepted, refused with 2 and refused with 6
 abbrev pub countLines : Tally → List ℕ

@@ -4,7 +4,7 @@ ghost use Prim.Native.Nat.{_+_, _*_, _≤_};
 ghost use lib.ListN.{length};
 ghost use Rattle.texts.specs.Texts.{lineFeed, lineOf};
 ghost use Rattle.texts.specs.Buffers.{Puts, Writes};
-ghost use Rattle.tally.specs.Counts.{totals};
+ghost use Rattle.totals.specs.Totals.{totals};
 ghost use Rattle.sheet.specs.Sheet.{messageLine, messageLines, countLines, smallestLine, reserveLines, longestMessage, longestCounts, longestReserves, SheetRule};
 use texts::write_one;
 use texts::write_text;

@@ -6,7 +6,8 @@ use Prim.Native.Nat.{ℕ}
 use lib.IntN.{ℤ}
 use Rattle.decoding.proofs.Decoding.{a-decoder}
 use Rattle.hands.proofs.Hands.{hands-decided}
-use Rattle.tally.specs.Counts.{Totals, Counts}
+use Rattle.totals.specs.Totals.{Totals}
+use Rattle.tally.specs.Counts.{Counts}
 
 pub count-decided :
     {xs : List ℤ} {before after later : Totals} {status other : ℕ}

@@ -17,8 +17,8 @@ use Rattle.decoding.specs.Decoding.{Decoder}
 use Rattle.decoding.proofs.Decoding.{Possible, taken, wrong-length, most-negative, tied, decoder-possible}
 use Rattle.hands.specs.Hands.{output, itself}
 use Rattle.totals.specs.declared.kinds.Tally.{Tally}
-use Rattle.totals.specs.Totals.{countPast, withAccepted, withMostNegative, withTied, acceptedFull}
-use Rattle.tally.specs.Counts.{Totals, totals, empty, withTable, answerRule, countRule}
+use Rattle.totals.specs.Totals.{Totals, totals, empty, countPast, withAccepted, withMostNegative, withTied, acceptedFull}
+use Rattle.tally.specs.Counts.{withTable, answerRule, countRule}
 use Rattle.tally.specs.History.{whereCounted, tallied, countedAnswers, isAccepted, isAcceptedFor, isRefusedWith, howMany, reserves, Among, AddsUp}
 use Rattle.tally.proofs.Lists.{howMany-more, reserves-more, total-more, total-zeros, total-raised, smallest-more}
 use Rattle.tally.proofs.Rules.{table-right}

@@ -18,9 +18,9 @@ use Rattle.decoding.proofs.Decoding.{tells}
 use Rattle.hands.specs.Hands.{HandsBack, itself}
 use Rattle.hands.proofs.Hands.{hands-refusal}
 use Rattle.totals.specs.declared.kinds.Tally.{Tally}
-use Rattle.totals.specs.Totals.{withAccepted, acceptedFull, acceptedRule}
+use Rattle.totals.specs.Totals.{Totals, totals, withAccepted, acceptedFull, acceptedRule}
 use Rattle.totals.proofs.Rules.{accepted-room}
-use Rattle.tally.specs.Counts.{Totals, totals, withTable, answerRule, countRule, Counts}
+use Rattle.tally.specs.Counts.{withTable, answerRule, countRule, Counts}
 
 -- by the table's length
 module _ (T : Totals) (answer : Answer (ℕ × ℕ)) where

@@ -2,7 +2,7 @@
 use mathlib.Core.List.{List}
 use Prim.Native.Nat.{ℕ, _+_}
 use lib.IntN.{ℤ}
-use lib.ListN.{getD, set, replicate}
+use lib.ListN.{getD, set}
 use Rattle.code.specs.Code.{messages}
 use Rattle.golay.specs.declared.kinds.Refusal.the-variants.{WrongLength}
 use Rattle.golay.specs.Answers.{Answer, accepted, refused, refuse}
@@ -10,19 +10,7 @@ use Rattle.golay.specs.Calls.{wrongLength}
 use Rattle.decoding.specs.Decoding.{Decoder}
 use Rattle.hands.specs.Hands.{HandsBack, itself}
 use Rattle.totals.specs.declared.kinds.Tally.{Tally}
-use Rattle.totals.specs.Totals.{acceptedRule, refusedRule}
-
--- Rule 18.1: a tally and its table
-pub record Totals : Type 0 where
-  pub tally : Tally
-  pub table : List ℕ
-
-abbrev pub totals : Tally → List ℕ → Totals
-totals t table = record { tally = t; table = table }
-
--- Rule 18.1: the empty tally and its table; 0 stands for no smallest reserve
-abbrev pub empty : Totals
-empty = totals (record { read = 0; accepted = 0; «refused_2» = 0; «refused_6» = 0; smallest = 0; total = 0 }) (replicate messages 0)
+use Rattle.totals.specs.Totals.{Totals, totals, acceptedRule, refusedRule}
 
 -- the totals that a tally and a table make, unless the count is refused
 abbrev pub withTable : List ℕ → Answer Tally → Answer Totals

@@ -11,7 +11,8 @@ use Rattle.code.specs.Array.{total}
 use Rattle.code.specs.Code.{messages}
 use Rattle.golay.specs.Answers.{Answer, accepted, refused}
 use Rattle.hands.specs.Hands.{output, itself}
-use Rattle.tally.specs.Counts.{Totals, countRule}
+use Rattle.totals.specs.Totals.{Totals}
+use Rattle.tally.specs.Counts.{countRule}
 
 -- an answer, where its reading was counted: one that the count refuses, with 1 or 12, is left out
 abbrev pub whereCounted : Answer Totals → Answer (ℕ × ℕ) → List (Answer (ℕ × ℕ))

@@ -1,6 +1,7 @@
 // The link report's tally: readings counted one by one, each message's in a lent table. Each call answers for every input, and a reading that
 // can't be counted moves nothing.
-ghost use Rattle.tally.specs.Counts.{totals, Counts};
+ghost use Rattle.totals.specs.Totals.{totals};
+ghost use Rattle.tally.specs.Counts.{Counts};
 use golay::MESSAGES;
 use golay::kinds::Refusal;
 use soft::kinds::SoftAnswer;

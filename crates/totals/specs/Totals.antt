@@ -1,11 +1,26 @@
--- Rules 18.1 to 18.3: what one more answer of the soft decoder makes of a tally.
+-- Rules 18.1 to 18.3: a tally with its table; and what one more answer of the soft decoder makes of a tally.
 use mathlib.Core.Bool.{Bool, cond, _||_}
+use mathlib.Core.List.{List}
 use Prim.Native.Nat.{ℕ, _+_}
 use lib.Dec.{eqb, ltb}
+use lib.ListN.{replicate}
+use Rattle.code.specs.Code.{messages}
 use Rattle.golay.specs.declared.kinds.Refusal.the-variants.{MostNegative, Tied, CountFull}
 use Rattle.golay.specs.Refusals.{number}
 use Rattle.golay.specs.Answers.{Answer, accepted, refused, refuse}
 use Rattle.totals.specs.declared.kinds.Tally.{Tally}
+
+-- Rule 18.1: a tally and its table
+pub record Totals : Type 0 where
+  pub tally : Tally
+  pub table : List ℕ
+
+abbrev pub totals : Tally → List ℕ → Totals
+totals t table = record { tally = t; table = table }
+
+-- Rule 18.1: the empty tally and its table; 0 stands for no smallest reserve
+abbrev pub empty : Totals
+empty = totals (record { read = 0; accepted = 0; «refused_2» = 0; «refused_6» = 0; smallest = 0; total = 0 }) (replicate messages 0)
 
 -- Rule 18.3: whether a count, or a total, is past its end
 abbrev pub countPast : ℕ → Bool

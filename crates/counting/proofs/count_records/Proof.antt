@@ -8,7 +8,7 @@ use borrow.Author.Needs.{needs}
 use lib.ListN.{length}
 use Rattle.records.specs.Records.{whole, stopped, standsAt, inPiece, nextFrom, standsAnswer}
 use Rattle.records.proofs.Standing.{whole-takes, takes-room}
-use Rattle.tally.specs.Counts.{totals}
+use Rattle.totals.specs.Totals.{totals}
 use Rattle.counting.proofs.Upto.{Upto, up-start, up-record, up-ended, up-stopped}
 use Rattle.counting.proofs.count_records.Statement.{statement}
 use Rattle.counting.proofs.count_records.Tie as tie

@@ -3,7 +3,7 @@
 use native.Mathlib.Omega.{arith}
 use borrow.Author.Needs.{needs}
 use lib.ListN.{length}
-use Rattle.tally.specs.Counts.{totals}
+use Rattle.totals.specs.Totals.{totals}
 use Rattle.sheet.specs.Sheet.{SheetRoom}
 use Rattle.sheet.proofs.Decided.{sheet-unwritten, sheet-written}
 use Rattle.sheet.proofs.write_sheet.Statement.{statement}

@@ -14,8 +14,7 @@ use Rattle.golay.specs.Answers.{accepted, refused}
 use Rattle.hands.specs.Hands.{HandsBack, itself}
 use Rattle.soft.specs.Answers.{softAnswer}
 use Rattle.decoding.proofs.Decoding.{accepted-message}
-use Rattle.totals.specs.Totals.{withAccepted, acceptedFull, acceptedRule, refusedRule}
-use Rattle.tally.specs.Counts.{totals}
+use Rattle.totals.specs.Totals.{totals, withAccepted, acceptedFull, acceptedRule, refusedRule}
 use Rattle.tally.proofs.Rules.{counted-count, table-raised, table-unraised, table-same, counts-wrong, counts-answer}
 use Rattle.tally.proofs.counted.Statement.{statement}
 use Rattle.tally.proofs.counted.Tie as tie
