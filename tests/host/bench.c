@@ -29,7 +29,7 @@ static void prepare(enum kind kind)
     for (int r = 0; r < READINGS; r++) {
         numbers[r] = chance() % 16777216;
         columns[r] = 1 + numbers[r] / CLASSES % COLUMNS;
-        garthumor_encode(numbers[r] % 4096, &codewords[r]);
+        garthumor_encode(numbers[r] % MESSAGES, &codewords[r]);
         fill_reading(readings[r], kind, codewords[r]);
     }
     for (int r = 0; r < READINGS; r++)
@@ -40,10 +40,12 @@ static void prepare(enum kind kind)
 static uint32_t one, other, slots[SLOTS];
 static int64_t wide, more;
 static uint8_t bytes[WORD_BYTES];
+static struct garthumor_tally tally;
+static uint32_t counts[MESSAGES];
 static volatile uint8_t kept;
 
 static uint8_t none(int r) { return (uint8_t)r; }
-static uint8_t encode(int r) { return garthumor_encode(numbers[r] % 4096, &one); }
+static uint8_t encode(int r) { return garthumor_encode(numbers[r] % MESSAGES, &one); }
 static uint8_t read_back(int r) { return garthumor_read(codewords[r], &one); }
 static uint8_t syndrome(int r) { return garthumor_syndrome(numbers[r], &one); }
 static uint8_t find(int r) { return garthumor_find(numbers[r], &one, &other); }
@@ -55,6 +57,7 @@ static uint8_t column_figure(int r) { return garthumor_column_figure(readings[r]
 static uint8_t soft(int r) { return garthumor_soft(readings[r], POSITIONS, &one, &other, &wide, &more); }
 static uint8_t quick(int r) { return garthumor_quick(readings[r], POSITIONS, &one); }
 static uint8_t better(int r) { return garthumor_better(readings[0], READINGS * POSITIONS, others[0], READINGS * POSITIONS, (size_t)r); }
+static uint8_t count(int r) { return garthumor_count(&tally, counts, MESSAGES, readings[r], POSITIONS); }
 static uint8_t write_bytes(int r) { return garthumor_write_bytes(codewords[r], bytes, WORD_BYTES); }
 static uint8_t read_bytes(int r) { return (void)r, garthumor_read_bytes(bytes, WORD_BYTES, &one); }
 static uint8_t field(int r) { return (uint8_t)field_decode(readings[r]); }
@@ -81,6 +84,7 @@ static const struct call calls[] = {
     { "soft", soft, 1 },
     { "quick", quick, 1 },
     { "better", better, 1 },
+    { "count", count, 1 },
     { "write_bytes", write_bytes, 1 },
     { "read_bytes", read_bytes, 1 },
     { "field", field, 0 },
