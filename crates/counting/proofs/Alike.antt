@@ -6,7 +6,7 @@ use mathlib.Core.List.{List, [], _∷_, _++_, append-assoc}
 use Prim.Native.Nat.{ℕ, _+_, _*_}
 use native.Mathlib.Omega.{arith}
 use lib.IntN.{ℤ}
-use lib.ListN.{length, take, drop}
+use lib.ListN.{length, drop}
 use lib.Seq.{drop-at}
 use borrow.Author.Tests.{le-leb}
 use Rattle.code.specs.Code.{positions}
@@ -16,7 +16,6 @@ use Rattle.sequence.specs.declared.kinds.Number.{Number}
 use Rattle.sequence.specs.declared.kinds.Number.the-variants.{None, Some}
 use Rattle.sequence.specs.Sequence.{previousAfter}
 use Rattle.records.specs.Records.{Record, oldLength, newLength, lengthWith, recordLength, confidencesOf, whole, standing, inPiece}
-use Rattle.records.specs.Capture.{runFrom}
 use Rattle.records.proofs.Standing.{whole-front}
 use Rattle.records.proofs.Running.{run-whole}
 use Rattle.totals.specs.Totals.{empty}

@@ -21,7 +21,7 @@ use Rattle.tally.specs.Counts.{countRule}
 use Rattle.tally.specs.History.{tallied}
 use Rattle.tally.proofs.Rules.{table-right}
 use Rattle.sheet.specs.Sheet.{countLines, messageLines, reserveLines, sheet}
-use Rattle.counting.specs.Reports.{readingsOf, allReadings, sheetOf}
+use Rattle.counting.specs.Reports.{allReadings, sheetOf}
 use Rattle.counting.specs.Cases.{workedSheet}
 
 -- the readings of the worked capture

@@ -6,7 +6,7 @@ use mathlib.Core.List.{List, [], _∷_}
 use Prim.Native.Nat.{ℕ, zero, suc, _+_, _≤_, _<_}
 use native.Mathlib.Omega.{arith}
 use lib.Dec.{leb, eqb, lit≤}
-use lib.ListN.{length, take, drop}
+use lib.ListN.{length, drop}
 use lib.Seq.{length-take-le}
 use borrow.Author.Tests.{leb-true, leb-false, ne-eqb}
 use Rattle.decoding.proofs.Decoding.{a-decoder}
@@ -14,7 +14,7 @@ use Rattle.sequence.specs.declared.kinds.Number.{Number}
 use Rattle.sequence.specs.declared.kinds.Number.the-variants.{None}
 use Rattle.sequence.specs.Sequence.{previousAfter}
 use Rattle.records.specs.Records.{isOldMark, isNewMark, Record, oldLength, newLength, recordLength, Standing, ended, stopped, whole, standing, inPiece}
-use Rattle.records.specs.Capture.{Telling, runAt, runIn, runFrom, Ending, ending}
+use Rattle.records.specs.Capture.{Telling, runAt, runIn, runFrom, ending}
 use Rattle.records.proofs.Standing.{tested}
 use Rattle.records.proofs.Running.{end-near, left-short}
 use Rattle.pieces.proofs.Pieces.{keeps-once}

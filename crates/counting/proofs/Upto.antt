@@ -20,7 +20,7 @@ use Rattle.records.proofs.Running.{told-ended, told-stopped, told-whole}
 use Rattle.totals.specs.Totals.{Totals}
 use Rattle.tally.specs.Counts.{Counts}
 use Rattle.tally.specs.History.{withReading, tallied}
-use Rattle.counting.specs.Reports.{readings, Came, came}
+use Rattle.counting.specs.Reports.{readings, came}
 use Rattle.counting.specs.Counting.{CountsRun}
 use Rattle.counting.proofs.Unnumbered.{readings-anywhere, came-after-any}
 

@@ -13,7 +13,7 @@ use Rattle.records.specs.Capture.{runFrom}
 use Rattle.pieces.specs.Pieces.{Keeps}
 use Rattle.totals.specs.Totals.{Totals}
 use Rattle.tally.specs.History.{tallied}
-use Rattle.counting.specs.Reports.{readings, Came, came}
+use Rattle.counting.specs.Reports.{readings, came}
 
 -- of the last bytes of the input, or of others: the readings of all records counted, for every decoder, and how the run ended
 pub record CountsRun (last : Bool) (bytes : List ℕ) (before after : Totals) (stop through : ℕ) : Type 0 where

@@ -4,9 +4,7 @@ use mathlib.Core.List.{List, [], _∷_, _++_}
 use Prim.Native.Nat.{ℕ}
 use lib.IntN.{ℤ}
 use Rattle.golay.specs.Answers.{Answer}
-use Rattle.sequence.specs.declared.kinds.Number.{Number}
 use Rattle.sequence.specs.declared.kinds.Number.the-variants.{None}
-use Rattle.records.specs.Records.{Record}
 use Rattle.records.specs.Capture.{Telling, listed, runFrom}
 use Rattle.totals.specs.Totals.{Totals, empty}
 use Rattle.tally.specs.History.{tallied}

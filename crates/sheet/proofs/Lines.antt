@@ -8,7 +8,7 @@ use native.Mathlib.Nat.{add-zero}
 use native.Mathlib.Numerals.{add-one}
 use native.Mathlib.Omega.{arith}
 use lib.Dec.{eqb, lit≤}
-use lib.ListN.{length, getD, take, drop, take-append-drop, length-append}
+use lib.ListN.{length, getD, take, take-append-drop, length-append}
 use lib.Seq.{take-suc, length-take-le}
 use Rattle.texts.specs.Ascii.{ascii}
 use Rattle.texts.specs.Texts.{lineFeed, lineOf, lineOfTwo}

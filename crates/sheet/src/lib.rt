@@ -1,5 +1,4 @@
 // The sheet of a link report: a tally and its table as text, put into a lent buffer. Where there is no room nothing is written.
-ghost use mathlib.Core.Path.{_≡_};
 ghost use Prim.Native.Nat.{_+_, _*_, _≤_};
 ghost use lib.ListN.{length};
 ghost use Rattle.texts.specs.Texts.{lineFeed, lineOf};

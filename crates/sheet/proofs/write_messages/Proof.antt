@@ -1,14 +1,12 @@
 -- `sheet::write_messages` meets its contract. The invariant: the lines of the first messages stand in the buffer, and each took no more than the
 -- longest.
 -- Assumes nothing.
-use mathlib.Core.Path.{_≡_, refl, sym, ap, _∙_}
-use mathlib.Core.List.{List}
-use Prim.Native.Nat.{ℕ, suc, _+_, _-_, _*_, _≤_}
-use native.Mathlib.Numerals.{add-one}
+use mathlib.Core.Path.{_≡_, refl, ap, _∙_}
+use Prim.Native.Nat.{ℕ, _+_, _-_, _*_, _≤_}
 use native.Mathlib.Omega.{arith}
 use lib.ListN.{length, take}
 use lib.Seq.{take-length}
-use Rattle.texts.specs.Buffers.{put, Puts}
+use Rattle.texts.specs.Buffers.{Puts}
 use Rattle.texts.proofs.Buffers.{puts-then, puts-text, writes-puts}
 use Rattle.sheet.specs.Sheet.{messageLines, longestMessage}
 use Rattle.sheet.proofs.Lines.{lines-more, no-lines}
