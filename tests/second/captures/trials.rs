@@ -20,7 +20,7 @@ pub struct Trial {
 }
 
 /// README.md has this number too. What the other trials leave of it are damaged captures.
-pub const TRIALS: usize = 9_000;
+pub const TRIALS: usize = 7_000;
 
 const LONG_RECORDS: usize = 100_000;
 const LONGEST_LINES: i64 = 6_000;
