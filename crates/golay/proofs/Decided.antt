@@ -6,7 +6,7 @@ use mathlib.Core.List.{List, [], _∷_}
 use Prim.Native.Nat.{ℕ}
 use lib.Dec.{eqb}
 use Rattle.golay.specs.declared.kinds.Refusal.{Refusal}
-use Rattle.golay.specs.declared.kinds.Refusal.the-variants.{WrongLength, MostNegative, MessageAbove, WordAbove, NotCodeword, Tied, DistanceFour, NotDistanceFour, NoMark, CutShort, ClassAbove, CountFull, NoColumn}
+use Rattle.golay.specs.declared.kinds.Refusal.the-variants.{WrongLength, MostNegative, MessageAbove, WordAbove, NotCodeword, Tied, DistanceFour, NotDistanceFour, NoMark, CutShort, ClassAbove, CountFull, Unsettled, NoColumn}
 use Rattle.golay.specs.declared.kinds.EncodeAnswer.{EncodeAnswer}
 use Rattle.golay.specs.declared.kinds.EncodeAnswer.the-variants as encode
 use Rattle.golay.specs.declared.kinds.ReadAnswer.{ReadAnswer}
@@ -32,7 +32,7 @@ refuse-once r false once a b p q = once a b p q
 -- all reasons, and the first of them that has a number
 abbrev reasons : List Refusal
 reasons =
-    WrongLength ∷ MostNegative ∷ MessageAbove ∷ WordAbove ∷ NotCodeword ∷ Tied ∷ DistanceFour ∷ NotDistanceFour ∷ NoMark ∷ CutShort ∷ ClassAbove ∷ CountFull ∷ NoColumn ∷ []
+    WrongLength ∷ MostNegative ∷ MessageAbove ∷ WordAbove ∷ NotCodeword ∷ Tied ∷ DistanceFour ∷ NotDistanceFour ∷ NoMark ∷ CutShort ∷ ClassAbove ∷ CountFull ∷ Unsettled ∷ NoColumn ∷ []
 
 abbrev first : List Refusal → ℕ → Refusal
 first [] n = WrongLength
@@ -54,6 +54,7 @@ reason-number NoMark = refl
 reason-number CutShort = refl
 reason-number ClassAbove = refl
 reason-number CountFull = refl
+reason-number Unsettled = refl
 reason-number NoColumn = refl
 
 encode-again : Answer ℕ → EncodeAnswer

@@ -1,7 +1,7 @@
 -- Rule 11.1: the number of each reason, and when it applies.
 use Prim.Native.Nat.{ℕ}
 use Rattle.golay.specs.declared.kinds.Refusal.{Refusal}
-use Rattle.golay.specs.declared.kinds.Refusal.the-variants.{WrongLength, MostNegative, MessageAbove, WordAbove, NotCodeword, Tied, DistanceFour, NotDistanceFour, NoMark, CutShort, ClassAbove, CountFull, NoColumn}
+use Rattle.golay.specs.declared.kinds.Refusal.the-variants.{WrongLength, MostNegative, MessageAbove, WordAbove, NotCodeword, Tied, DistanceFour, NotDistanceFour, NoMark, CutShort, ClassAbove, CountFull, Unsettled, NoColumn}
 
 abbrev pub number : Refusal → ℕ
 -- a reading has other than 24 confidences, a buffer for a codeword other than 3 bytes, the slots for candidates are other than 6, or a table
@@ -15,7 +15,7 @@ number MessageAbove = 3
 number WordAbove = 4
 -- a word of 24 bits that is to be read, or to be written as bytes, is no codeword
 number NotCodeword = 5
--- no one word is best (7.4, 9.5)
+-- no one word is best (7.4, 9.6)
 number Tied = 6
 -- a word to be corrected is at distance 4 from the code
 number DistanceFour = 7
@@ -29,5 +29,7 @@ number CutShort = 10
 number ClassAbove = 11
 -- to count a reading would take a count or the total of reserves past its end (18.3)
 number CountFull = 12
+-- a reading has zeros, and they leave the quick decoder's answer open (9.7)
+number Unsettled = 14
 -- a column number is not 1 to 6
 number NoColumn = 18

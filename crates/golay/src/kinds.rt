@@ -7,7 +7,7 @@ pub struct Codeword(pub u32);
 
 pub struct Syndrome(pub u32);
 
-// The thirteen reasons of rule 11.1, in the order of their numbers; specs/Refusals.antt gives each its number.
+// The fourteen reasons of rule 11.1, in the order of their numbers; specs/Refusals.antt gives each its number.
 pub enum Refusal {
     WrongLength,
     MostNegative,
@@ -21,6 +21,7 @@ pub enum Refusal {
     CutShort,
     ClassAbove,
     CountFull,
+    Unsettled,
     NoColumn,
 }
 

@@ -54,6 +54,7 @@ pub fn refusal_number(reason: Refusal) -> u8
         Refusal::CutShort => 10,
         Refusal::ClassAbove => 11,
         Refusal::CountFull => 12,
+        Refusal::Unsettled => 14,
         Refusal::NoColumn => 18,
     }
 }

@@ -5,7 +5,7 @@ use mathlib.Core.Path.{_≡_, refl, sym, _∙_}
 use Prim.Native.Nat.{ℕ, _<_}
 use lib.Dec.{lit<}
 use Rattle.golay.specs.declared.kinds.Refusal.{Refusal}
-use Rattle.golay.specs.declared.kinds.Refusal.the-variants.{WrongLength, MostNegative, MessageAbove, WordAbove, NotCodeword, Tied, DistanceFour, NotDistanceFour, NoMark, CutShort, ClassAbove, CountFull, NoColumn}
+use Rattle.golay.specs.declared.kinds.Refusal.the-variants.{WrongLength, MostNegative, MessageAbove, WordAbove, NotCodeword, Tied, DistanceFour, NotDistanceFour, NoMark, CutShort, ClassAbove, CountFull, Unsettled, NoColumn}
 use Rattle.golay.specs.Refusals.{number}
 use Rattle.golay.specs.Answers.{Answer, accepted, refused}
 use Rattle.hands.specs.Hands.{HandsBack, HandsBackOne}
@@ -24,6 +24,7 @@ number-above-zero NoMark = lit< tt
 number-above-zero CutShort = lit< tt
 number-above-zero ClassAbove = lit< tt
 number-above-zero CountFull = lit< tt
+number-above-zero Unsettled = lit< tt
 number-above-zero NoColumn = lit< tt
 
 -- Rule 11.7: a call that answers returns 0, and one that refuses its refusal's number, which is above 0

@@ -1,3 +1,3 @@
-pub mod Choosing
+pub mod Trying
+pub mod Settling
 pub mod Rules
-pub mod Cases

@@ -1,25 +1,27 @@
 -- The quick decoder's rule, taken apart: what it allows where its tests are known; and that two answers that it allows are equal.
 -- Assumes nothing.
-use mathlib.Core.Path.{_≡_, refl, sym, ap, _∙_}
+use mathlib.Core.Path.{_≡_, refl, sym, ap, _∙_, subst}
 use mathlib.Core.Bool.{true, false}
 use mathlib.Core.List.{List}
-use Prim.Native.Nat.{ℕ}
+use Prim.Native.Nat.{ℕ, zero, suc, _<_}
 use native.Mathlib.Omega.{arith}
-use native.Mathlib.Decide.{ℕ-discrete}
 use lib.IntN.{ℤ}
 use lib.ListN.{length}
 use borrow.Author.Tests.{eq-eqb, ne-eqb}
 use Rattle.code.specs.Code.{positions}
 use Rattle.golay.specs.Answers.{Answer, accepted, refused}
-use Rattle.golay.proofs.Decided.{said-once, refuse-once, reason, reason-number}
-use Rattle.hard.specs.Answers.{Correction}
-use Rattle.hard.proofs.Decided.{correct-once}
 use Rattle.golay.specs.Calls.{wrongLength}
+use Rattle.golay.proofs.Decided.{said-once, refuse-once, reason, reason-number}
 use Rattle.reading.specs.Checks.{mostNegative}
+use Rattle.signs.specs.Signs.{signWord}
+use Rattle.signs.specs.Fillings.{zeros}
+use Rattle.signs.proofs.Fillings.{sign-filling}
+use Rattle.decision.specs.Decision.{Decides}
+use Rattle.decision.proofs.Decided.{decides-one}
 use Rattle.quick.specs.declared.kinds.QuickAnswer.{QuickAnswer}
 use Rattle.quick.specs.declared.kinds.QuickAnswer.the-variants as quick
-use Rattle.signs.specs.Signs.{signWord}
-use Rattle.quick.specs.Quick.{quickAnswer, Cheapest, TwoCheapest, Chosen, alone, shared, Follows, Decides, QuickRule}
+use Rattle.quick.specs.Quick.{quickAnswer, Settles, settled, unsettled, Answers, QuickRule}
+use Rattle.quick.proofs.Settling.{decided-same}
 
 module _ (xs : List ℤ) where
   pub quick-length : (length xs ≡ 24 → ⊥) → QuickRule xs (refused 1)
@@ -31,49 +33,36 @@ module _ (xs : List ℤ) where
     unfolding QuickRule
     quick-negative e = simp (eq-eqb (length xs) 24 l, e)
 
-    pub quick-decides : mostNegative xs ≡ false → {a : Answer ℕ} → Decides xs a → QuickRule xs a
-    unfolding QuickRule
-    quick-decides e d = simp (eq-eqb (length xs) 24 l, e) d
+    module _ (e : mostNegative xs ≡ false) (a : Answer ℕ) where
+      pub quick-answers : Answers (zeros xs) xs a → QuickRule xs a
+      unfolding QuickRule
+      quick-answers d = simp (eq-eqb (length xs) 24 l, e) d
+
+      pub quick-signs : zeros xs ≡ 0 → Decides (signWord xs) xs a → QuickRule xs a
+      quick-signs z d = quick-answers (subst (λ (n : ℕ). Answers n xs a) (sym z) d)
+
+      pub quick-settles : 0 < zeros xs → Settles xs a → QuickRule xs a
+      quick-settles h s = quick-answers (go (zeros xs) h)
+        where
+          go : (n : ℕ) → 0 < n → Answers n xs a
+          go zero p = let f : ⊥ = omega arith in absurd f
+          go (suc n) p = s
 
 -- ---- two allowed answers are equal
 
-module _ {word : ℕ} {xs : List ℤ} where
-  -- two that are cheapest alone are one, and none is beside two that share it
-  same-cheapest : {c d : ℕ} → Cheapest word xs c → Cheapest word xs d → c ≡ d
-  same-cheapest {c} {d} p q = go (ℕ-discrete c d)
-    where
-      go : Dec (c ≡ d) → c ≡ d
-      go (yes e) = e
-      go (no n) =
-          let f : ⊥ = omega (arith, p .cheaper d (q .candidate) (λ e. n (sym e)), q .cheaper c (p .candidate) n) in
-          absurd f
+settles-one : {xs : List ℤ} {a b : Answer ℕ} → Settles xs a → Settles xs b → a ≡ b
+settles-one {xs} (settled p) (settled q) = ap accepted (decided-same (p .each (signWord xs) (sign-filling xs)) (q .each (signWord xs) (sign-filling xs)))
+settles-one (settled {c} p) (unsettled n) = absurd (n c p)
+settles-one (unsettled n) (settled {c} p) = absurd (n c p)
+settles-one (unsettled n) (unsettled m) = refl
 
-  not-both : {c : ℕ} → Cheapest word xs c → TwoCheapest word xs → ⊥
-  not-both {c} p t = go (ℕ-discrete (t .one) c)
-    where
-      go : Dec (t .one ≡ c) → ⊥
-      go (yes e) =
-          omega (arith, p .cheaper (t .other) (t .candidate-other) (λ q. t .different (e ∙ sym q)), t .equal, t .least c (p .candidate))
-      go (no n) = omega (arith, p .cheaper (t .one) (t .candidate) n, t .least c (p .candidate))
-
-  chosen-one : {a b : Answer ℕ} → Chosen word xs a → Chosen word xs b → a ≡ b
-  chosen-one (alone p) (alone q) = ap accepted (same-cheapest p q)
-  chosen-one (alone p) (shared t) = absurd (not-both p t)
-  chosen-one (shared t) (alone p) = absurd (not-both p t)
-  chosen-one (shared t) (shared u) = refl
-
-follows-one : (word : ℕ) (xs : List ℤ) (c : Answer Correction) {a b : Answer ℕ} → Follows word xs c a → Follows word xs c b → a ≡ b
-follows-one word xs (accepted c) p q = p ∙ sym q
-follows-one word xs (refused n) p q = chosen-one p q
-
-decides-one : {xs : List ℤ} {a b : Answer ℕ} → Decides xs a → Decides xs b → a ≡ b
-decides-one {xs} p q =
-    let e = correct-once (signWord xs) (p .correction) (q .correction) (p .corrects) (q .corrects) in
-    follows-one (signWord xs) xs (q .correction) (rw e at (p .follows)) (q .follows)
+answers-one : (n : ℕ) (xs : List ℤ) (a b : Answer ℕ) → Answers n xs a → Answers n xs b → a ≡ b
+answers-one zero xs a b p q = decides-one p q
+answers-one (suc n) xs a b p q = settles-one p q
 
 pub quick-once : (xs : List ℤ) (a b : Answer ℕ) → QuickRule xs a → QuickRule xs b → a ≡ b
 unfolding QuickRule
-quick-once xs = refuse-once _ (wrongLength positions xs) (refuse-once _ (mostNegative xs) (λ a b s t. decides-one s t))
+quick-once xs = refuse-once _ (wrongLength positions xs) (refuse-once _ (mostNegative xs) (answers-one (zeros xs) xs))
 
 again : Answer ℕ → QuickAnswer
 again (accepted x) = quick.Accepted (record { 0 = x })

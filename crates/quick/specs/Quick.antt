@@ -1,21 +1,16 @@
--- Rules 9.1 to 9.5: the quick decoder of source document 003, over hard correction.
-use mathlib.Core.Path.{_≡_}
-use mathlib.Core.Logic.{_≢_}
+-- Rules 9.1, 9.6 and 9.7: the quick decoder: what the fillings of a reading are decided for.
 use mathlib.Core.List.{List}
-use Prim.Native.Nat.{ℕ, _≤_, _<_}
-use lib.IntN.{ℤ, pos, negℤ}
-use lib.ListN.{getD}
-use lib.Bits.{bitXor}
+use Prim.Native.Nat.{ℕ, zero, suc, _≤_}
+use lib.IntN.{ℤ}
 use Rattle.code.specs.Code.{positions}
-use Rattle.golay.specs.declared.kinds.Refusal.the-variants.{WrongLength, MostNegative, Tied}
+use Rattle.golay.specs.declared.kinds.Refusal.the-variants.{WrongLength, MostNegative, Unsettled}
 use Rattle.golay.specs.Refusals.{number}
 use Rattle.golay.specs.Answers.{Answer, accepted, refused, Refuse}
-use Rattle.hard.specs.Answers.{Correction}
-use Rattle.hard.specs.Calls.{Corrects}
-use Rattle.candidates.specs.Candidates.{Candidate}
 use Rattle.golay.specs.Calls.{wrongLength}
 use Rattle.reading.specs.Checks.{mostNegative}
-use Rattle.signs.specs.Signs.{signWord, cost}
+use Rattle.signs.specs.Signs.{signWord}
+use Rattle.signs.specs.Fillings.{zeros, Filling}
+use Rattle.decision.specs.Decision.{Decides}
 use Rattle.quick.specs.declared.kinds.QuickAnswer.{QuickAnswer}
 use Rattle.quick.specs.declared.kinds.QuickAnswer.the-variants as quick
 
@@ -24,45 +19,26 @@ abbrev pub quickAnswer : QuickAnswer → Answer ℕ
 quickAnswer (quick.Accepted codeword) = accepted (codeword .0)
 quickAnswer (quick.Refused reason) = refused (number reason)
 
--- Rule 9.4: what a candidate costs, by the positions where it departs from the word
-abbrev pub costOf : ℕ → List ℤ → ℕ → ℕ
-costOf word xs c = cost (bitXor word c) xs
+-- Rule 9.7: there are four zeros or fewer, and every filling is decided for c
+pub record Settled (xs : List ℤ) (c : ℕ) : Type 0 where
+  pub few : zeros xs ≤ 4
+  pub each : (word : ℕ) → Filling xs word → Decides word xs (accepted c)
 
--- the costs of candidates in slots, negated: the cheapest has the largest
-abbrev pub merits : ℕ → List ℤ → List ℕ → ℕ → ℤ
-merits word xs slots k = negℤ (pos (costOf word xs (getD slots k 0)))
+-- Rule 9.7: the answer to a reading with zeros
+pub data Settles (xs : List ℤ) : Answer ℕ → Type 0 where
+  settled : {c : ℕ} → Settled xs c → Settles xs (accepted c)
+  unsettled : ((c : ℕ) → Settled xs c → ⊥) → Settles xs (refused (number Unsettled))
 
--- Rule 9.4: the candidate whose cost is below that of all others
-pub record Cheapest (word : ℕ) (xs : List ℤ) (c : ℕ) : Type 0 where
-  pub candidate : Candidate word c
-  pub cheaper : (d : ℕ) → Candidate word d → d ≢ c → costOf word xs c < costOf word xs d
+-- Rules 9.6 and 9.7: the answer to a valid reading, by how many zeros it has: none, so that its word of signs decides, or some
+abbrev pub Answers : ℕ → List ℤ → Answer ℕ → Type 0
+Answers zero xs = Decides (signWord xs) xs
+Answers (suc z) xs = Settles xs
 
--- Rule 9.5: two candidates have the least cost
-pub record TwoCheapest (word : ℕ) (xs : List ℤ) : Type 0 where
-  pub one : ℕ
-  pub other : ℕ
-  pub candidate : Candidate word one
-  pub candidate-other : Candidate word other
-  pub different : one ≢ other
-  pub equal : costOf word xs one ≡ costOf word xs other
-  pub least : (d : ℕ) → Candidate word d → costOf word xs one ≤ costOf word xs d
-
--- Rules 9.4 and 9.5: the answer at distance 4
-pub data Chosen (word : ℕ) (xs : List ℤ) : Answer ℕ → Type 0 where
-  alone : {c : ℕ} → Cheapest word xs c → Chosen word xs (accepted c)
-  shared : TwoCheapest word xs → Chosen word xs (refused (number Tied))
-
--- Rule 9.3: what correction makes of the word. Where it refuses the word, rule 9.4: a candidate is chosen.
-abbrev pub Follows : ℕ → List ℤ → Answer Correction → Answer ℕ → Type 0
-Follows word xs (accepted c) answer = answer ≡ accepted (c .codeword)
-Follows word xs (refused n) answer = Chosen word xs answer
-
--- Rules 9.2 to 9.5: the answer to a valid reading
-pub record Decides (xs : List ℤ) (answer : Answer ℕ) : Type 0 where
-  pub correction : Answer Correction
-  pub corrects : Corrects (signWord xs) correction
-  pub follows : Follows (signWord xs) xs correction answer
-
--- Rule 11.3, quick: 1, then 2, or what the signs decide, 6 included
+-- Rule 11.3, quick: 1, then 2, or what the fillings decide, 6 and 14 included
 unfoldable pub QuickRule : List ℤ → Answer ℕ → Type 0
-QuickRule xs = Refuse WrongLength (wrongLength positions xs) (Refuse MostNegative (mostNegative xs) (Decides xs))
+QuickRule xs = Refuse WrongLength (wrongLength positions xs) (Refuse MostNegative (mostNegative xs) (Answers (zeros xs) xs))
+
+-- Source document 003's rule: 1, then 2, or what the word of signs is decided for, 6 included. It is the quick decoder's for a reading without
+-- zeros.
+unfoldable pub SignsRule : List ℤ → Answer ℕ → Type 0
+SignsRule xs = Refuse WrongLength (wrongLength positions xs) (Refuse MostNegative (mostNegative xs) (Decides (signWord xs) xs))

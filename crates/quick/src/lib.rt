@@ -1,79 +1,90 @@
-// The quick decoder, there to be compared with: the signs as a word, corrected; at distance four the candidate that costs least. The soft
-// decoder may answer otherwise (rule 9.6).
+// The quick decoder, there to be compared with: what the fillings of a reading are decided for. The soft decoder may answer otherwise (rule 9.8).
 ghost use mathlib.Core.Path.{_≡_};
-ghost use Prim.Native.Nat.{_<_};
-ghost use lib.IntN.{pos, negℤ};
-ghost use lib.ListN.{length};
-ghost use Rattle.signed.specs.Within.{Within};
-ghost use Rattle.contest.specs.Largest.{Best};
-ghost use Rattle.code.specs.Code.{positions, words, syndromeOf};
-ghost use Rattle.candidates.specs.Candidates.{AtFour};
-ghost use Rattle.signs.specs.Signs.{cost};
-ghost use Rattle.quick.specs.Quick.{quickAnswer, merits, Chosen, QuickRule};
+ghost use Prim.Native.Nat.{_+_, _%_};
+ghost use Rattle.code.specs.Code.{positions, words};
+ghost use Rattle.golay.specs.Answers.{accepted};
+ghost use Rattle.signs.specs.Signs.{padded, signWord};
+ghost use Rattle.signs.specs.Fillings.{zeroWord};
+ghost use Rattle.decision.specs.Decision.{Decides};
+ghost use Rattle.quick.specs.Gives.{Gives, AllGive};
+ghost use Rattle.quick.specs.Quick.{quickAnswer, Settles, QuickRule};
 
 pub mod kinds;
 
-use contest::Keeper;
+use decision::kinds::Decision;
 use golay::POSITIONS;
-use golay::kinds::Codeword;
 use golay::kinds::Refusal;
-use hard::kinds::CorrectAnswer;
 use kinds::QuickAnswer;
 
-// A cost, negated: the cheapest has the largest.
-fn merit(error: u32, reading: &[i32]) -> i64
-    requires { ⌜ length (now reading) ≡ positions ⌝ }
-    ensures { λ r. ⌜ r ≡ negℤ (pos (cost error (now (reading .entry)))) ⌝ }
-    ensures { λ r. ⌜ Within 51539607552 r ⌝ }
+// What the word of signs is decided for. Refuses 6.
+fn signs_alone(reading: &[i32]) -> QuickAnswer
+    ensures { λ r. ⌜ Decides (signWord (padded positions (now (reading .entry)))) (padded positions (now (reading .entry))) (quickAnswer r) ⌝ }
 {
-    -(signs::cost(error, reading) as i64)
-}
-
-// The two largest merits of six candidates, and where the largest is.
-fn cheapest(word: u32, slots: &[u32], reading: &[i32]) -> Keeper
-    requires { ⌜ (length (now reading) ≡ positions) × (length (now slots) ≡ 6) ⌝ }
-    ensures { λ r. ⌜ Best (merits word (now (reading .entry)) (now (slots .entry))) 0 6 (r .best) (r .second) (r .at) ⌝ }
-{
-    let mut kept = Keeper::first(merit(word ^ slots[0], reading), 0);
-    let mut i: u32 = 1;
-    while i < 6 {
-        kept = kept.take(merit(word ^ slots[i as usize], reading), i);
-        i += 1;
+    match decision::decide(signs::sign_word(reading), reading) {
+        Decision::For(codeword) => QuickAnswer::Accepted(codeword),
+        Decision::Tied => QuickAnswer::Refused(Refusal::Tied),
     }
-    kept
 }
 
-// The candidate that costs least, for a word that correction refuses. Refuses 6.
-fn chosen(word: u32, reading: &[i32]) -> QuickAnswer
-    requires { ⌜ (length (now reading) ≡ positions) × (word < words) ⌝ }
-    requires { ⌜ AtFour word (syndromeOf word) ⌝ }
-    ensures { λ r. ⌜ Chosen word (now (reading .entry)) (quickAnswer r) ⌝ }
+// Whether a word is decided for a codeword.
+fn gives(codeword: u32, word: u32, reading: &[i32]) -> bool
+    ensures { λ r. ⌜ Gives codeword (word % words) (padded positions (now (reading .entry))) r ⌝ }
 {
-    let mut slots: [u32; 6] = [0; 6];
-    candidates::candidates(word, &mut slots);
-    let kept = cheapest(word, &slots, reading);
-    let best = kept.best;
-    let second = kept.second;
-    if best <= second {
-        return QuickAnswer::Refused(Refusal::Tied);
+    match decision::decide(word, reading) {
+        Decision::For(c) => c.0 == codeword,
+        Decision::Tied => false,
     }
-    let at = kept.at as usize;
-    QuickAnswer::Accepted(Codeword(slots[at]))
 }
 
-// The quick decoder's codeword (rules 9.3 and 9.4). Refuses 1, then 2, then 6.
+// Whether every filling is decided for a codeword, given that the one is that has a 1 at each zero. The others are tried in descending order:
+// one less, of which the bits at the zeros are kept, is the next lower choice of the zeros.
+fn all_give(codeword: u32, least: u32, zeros: u32, reading: &[i32]) -> bool
+    requires { ⌜ (least ≡ signWord (padded positions (now reading))) × (zeros ≡ zeroWord (padded positions (now reading))) × Decides (least + zeros) (padded positions (now reading)) (accepted codeword) ⌝ }
+    ensures { λ r. ⌜ AllGive codeword (padded positions (now (reading .entry))) r ⌝ }
+{
+    let mut ones = zeros;
+    while ones > 0 {
+        ones = (ones - 1) & zeros;
+        if !gives(codeword, least + ones, reading) {
+            return false;
+        }
+    }
+    true
+}
+
+// What the fillings of a reading with zeros are decided for. Refuses 14.
+fn fillings(reading: &[i32]) -> QuickAnswer
+    ensures { λ r. ⌜ Settles (padded positions (now (reading .entry))) (quickAnswer r) ⌝ }
+{
+    let zeros = signs::zero_word(reading);
+    if golay::ones(zeros) > 4 {
+        return QuickAnswer::Refused(Refusal::Unsettled);
+    }
+    let least = signs::sign_word(reading);
+    match decision::decide(least + zeros, reading) {
+        Decision::For(codeword) => {
+            if all_give(codeword.0, least, zeros, reading) {
+                QuickAnswer::Accepted(codeword)
+            } else {
+                QuickAnswer::Refused(Refusal::Unsettled)
+            }
+        }
+        Decision::Tied => QuickAnswer::Refused(Refusal::Unsettled),
+    }
+}
+
+// The quick decoder's codeword (rules 9.6 and 9.7). Refuses 1, then 2, then 6 for a reading without zeros and 14 for one with zeros.
 pub fn quick(reading: &[i32]) -> QuickAnswer
     ensures { λ r. ⌜ QuickRule (now (reading .entry)) (quickAnswer r) ⌝ }
 {
     if reading.len() != POSITIONS {
         return QuickAnswer::Refused(Refusal::WrongLength);
     }
+    if signs::clear(reading) {
+        return signs_alone(reading);
+    }
     if reading::most_negative(reading) {
         return QuickAnswer::Refused(Refusal::MostNegative);
     }
-    let word = signs::sign_word(reading);
-    match hard::correct(word) {
-        CorrectAnswer::Accepted(codeword, _) => QuickAnswer::Accepted(codeword),
-        CorrectAnswer::Refused(_) => chosen(word, reading),
-    }
+    fillings(reading)
 }

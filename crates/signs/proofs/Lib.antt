@@ -1,2 +1,5 @@
 pub mod Padded
 pub mod Turns
+pub mod Zeros
+pub mod Fillings
+pub mod Steps

@@ -1,4 +1,5 @@
 -- Rules 9.2 and 9.4: the signs of a reading as a word, and what an error costs.
+use mathlib.Core.Bool.{Bool}
 use mathlib.Core.List.{List, [], _∷_}
 use Prim.Native.Nat.{ℕ, zero, suc, _+_, _*_, _/_, _%_, _^_}
 use lib.IntN.{ℤ, pos, natAbs}
@@ -6,10 +7,14 @@ use lib.ListN.{length}
 use Rattle.signed.specs.Sign.{sign}
 use Rattle.contest.specs.Words.{one}
 
--- Rule 9.2: a 1 where the confidence is below zero, and a 0 everywhere else; position 1 counts most (1.2)
-unfoldable pub signWord : List ℤ → ℕ
-signWord [] = 0
-signWord (x ∷ xs) = one (sign x) * 2 ^ length xs + signWord xs
+-- the word that has a 1 at each confidence of which a test holds; position 1 counts most (1.2)
+unfoldable pub marked : (ℤ → Bool) → List ℤ → ℕ
+marked test [] = 0
+marked test (x ∷ xs) = one (test x) * 2 ^ length xs + marked test xs
+
+-- Rule 9.2: the word of signs, a 1 where the confidence is below zero; of a reading with zeros, the filling that has a 0 at each
+abbrev pub signWord : List ℤ → ℕ
+signWord xs = marked sign xs
 
 -- Rule 9.4: the sizes of the confidences at the ones of an error, added up
 unfoldable pub cost : ℕ → List ℤ → ℕ

@@ -1,5 +1,5 @@
-// The signs of a reading as a word, and what an error costs by it (rules 9.2 and 9.4). Of a slice that is no reading, both take the first 24
-// confidences, and 0 for each that is missing.
+// The signs of a reading as a word, its zeros as another, and what an error costs by it (rules 9.2 and 9.4). Of a slice that is no reading, these
+// take the first 24 confidences, and 0 for each that is missing.
 ghost use mathlib.Core.Path.{_≡_};
 ghost use Prim.Native.Nat.{_*_, _/_, _%_, _-_, _^_, _<_, _≤_};
 ghost use lib.IntN.{pos, natAbs};
@@ -8,6 +8,7 @@ ghost use Rattle.signed.specs.Sign.{sign};
 ghost use Rattle.contest.specs.Words.{one};
 ghost use Rattle.code.specs.Code.{positions, words};
 ghost use Rattle.signs.specs.Signs.{padded, signWord};
+ghost use Rattle.signs.specs.Fillings.{isZero, zeroWord, Clear};
 ghost use Rattle.signs.specs.Signs as rule;
 use golay::POSITIONS;
 
@@ -36,6 +37,47 @@ pub fn sign_word(reading: &[i32]) -> u32
         i += 1;
     }
     word
+}
+
+// 1 for a zero.
+fn zero_bit(reading: &[i32], i: usize) -> u32
+    ensures { λ r. ⌜ r ≡ one (isZero (getD (now (reading .entry)) i (pos 0))) ⌝ }
+{
+    if signed::widened(reading, i) == 0 {
+        1
+    } else {
+        0
+    }
+}
+
+// The zeros as a word, position 1 first.
+pub fn zero_word(reading: &[i32]) -> u32
+    ensures { λ r. ⌜ (r ≡ zeroWord (padded positions (now (reading .entry)))) × (r < words) ⌝ }
+{
+    let mut word: u32 = 0;
+    let mut i: usize = 0;
+    while i < POSITIONS {
+        word = 2 * word + zero_bit(reading, i);
+        i += 1;
+    }
+    word
+}
+
+// Whether each confidence has a sign and none is the most negative number: one test for both, since most readings pass it.
+pub fn clear(reading: &[i32]) -> bool
+    ensures { λ r. ⌜ Clear (now (reading .entry)) r ⌝ }
+{
+    let mut i: usize = 0;
+    while i < reading.len() {
+        if reading[i] == -2_147_483_648 {
+            return false;
+        }
+        if reading[i] == 0 {
+            return false;
+        }
+        i += 1;
+    }
+    true
 }
 
 // The size of the confidence at i where the error has a one there, else 0.

@@ -1,99 +1,69 @@
--- `quick::quick` meets its contract, by those of `hard::correct` and of `chosen`.
+-- `quick::quick` meets its contract, by those of `signs_alone` and of `fillings`.
 -- Assumes nothing.
-use mathlib.Core.Path.{refl, ap, sym, _∙_, subst}
-use Prim.Native.Nat.{ℕ}
+use mathlib.Core.Path.{_≡_, sym, _∙_, subst}
+use mathlib.Core.List.{List}
+use lib.IntN.{ℤ}
 use denote.Ref.{now}
 use borrow.Author.Needs.{needs}
-use Rattle.golay.specs.Answers.{accepted}
-use Rattle.hard.specs.Answers.{correctAnswer}
-use Rattle.hard.specs.Calls.{Corrects}
-use Rattle.code.specs.Code.{positions}
-use Rattle.signs.specs.Signs.{signWord}
+use Rattle.signs.specs.Signs.{padded, signWord}
 use Rattle.signs.proofs.Padded.{padded-whole}
-use Rattle.quick.specs.Quick.{Chosen, Follows, quickAnswer}
-use Rattle.quick.proofs.Choosing.{refused-four}
-use Rattle.quick.proofs.Rules.{quick-length, quick-negative, quick-decides}
+use Rattle.decision.specs.Decision.{Decides}
+use Rattle.quick.specs.Quick.{quickAnswer, Settles}
+use Rattle.quick.proofs.Rules.{quick-length, quick-negative, quick-signs, quick-settles}
 use Rattle.quick.proofs.quick.Statement.{statement}
 use Rattle.quick.proofs.quick.Tie as tie
 
 returns : tie.Need-returns
 returns c = quick-length (now (c .before .args .reading)) (c .if1 .taken)
 
-most-negative-requires : tie.Need-most-negative-requires
-most-negative-requires c κs = search needs
+clear-requires : tie.Need-clear-requires
+clear-requires c κs = search needs
+
+signs-alone-requires : tie.Need-signs-alone-requires
+signs-alone-requires c κs = search needs
 
 returns-2 : tie.Need-returns-2
 returns-2 c =
-    let called = c .before in
-    quick-negative (now (called .before .before .args .reading)) (called .before .if1 .left) (sym (called .most-negative .ensures .is) ∙ c .if2 .taken)
+    let test = c .before in
+    let start = test .before .before .before in
+    let xs = now (start .args .reading) in
+    let l = test .before .before .if1 .left in
+    let clear = test .before .clear .ensures in
+    quick-signs xs l (clear .valid (test .if2 .taken)) (quickAnswer (c .signs-alone .result)) (clear .none (test .if2 .taken))
+    (subst (λ (ys : List ℤ). Decides (signWord ys) ys (quickAnswer (c .signs-alone .result))) (padded-whole 24 xs l) (c .signs-alone .ensures))
 
-sign-word-requires : tie.Need-sign-word-requires
-sign-word-requires c κs = search needs
-
-correct-requires : tie.Need-correct-requires
-correct-requires c κs = search needs
-
-enum-known-codeword : tie.Need-enum-known-codeword
-enum-known-codeword c = search needs
-
-enum-told : tie.Need-enum-told
-enum-told c = search needs
-
-chosen-requires : tie.Need-chosen-requires
-chosen-requires c κs =
-    let corrected = c .before .before in
-    let signs = corrected .before in
-    let start = signs .before .before .before .before in
-    let p = subst (λ a. Corrects (signs .sign-word .result) (correctAnswer a)) (c .enum-told .given .1) (corrected .correct .ensures) in
-    ((signs .before .before .before .if1 .left, signs .sign-word .ensures .1), refused-four (signs .sign-word .ensures .1) p)
+most-negative-requires : tie.Need-most-negative-requires
+most-negative-requires c κs = search needs
 
 returns-3 : tie.Need-returns-3
 returns-3 c =
-    let matched = c .before in
-    let corrected = matched .before .before in
-    let signs = corrected .before in
-    let checked = signs .before .before in
-    let start = checked .before .before in
-    let xs = now (start .args .reading) in
-    let l = checked .before .if1 .left in
-    let w = signs .sign-word .ensures .0 ∙ ap signWord (padded-whole positions xs l) in
-    quick-decides xs l (sym (checked .most-negative .ensures .is) ∙ signs .before .if2 .left)
-    (record {
-      correction = correctAnswer (corrected .correct .result);
-      corrects = subst (λ (x : ℕ). Corrects x (correctAnswer (corrected .correct .result))) w (corrected .correct .ensures);
-      follows = subst (λ a. Follows (signWord xs) xs (correctAnswer a) (accepted (matched .codeword .given .0 .0 .0))) (sym (matched .codeword .given .1)) refl;
-    })
+    let called = c .before in
+    let start = called .before .before .before .before in
+    quick-negative (now (start .args .reading)) (called .before .before .before .if1 .left) (sym (called .most-negative .ensures .is) ∙ c .if3 .taken)
+
+fillings-requires : tie.Need-fillings-requires
+fillings-requires c κs = search needs
 
 returns-4 : tie.Need-returns-4
 returns-4 c =
-    let told = c .before in
-    let corrected = told .before .before in
-    let signs = corrected .before in
-    let checked = signs .before .before in
-    let start = checked .before .before in
+    let test = c .before in
+    let called = test .before in
+    let start = called .before .before .before .before in
     let xs = now (start .args .reading) in
-    let l = checked .before .if1 .left in
-    let w = signs .sign-word .ensures .0 ∙ ap signWord (padded-whole positions xs l) in
-    quick-decides xs l (sym (checked .most-negative .ensures .is) ∙ signs .before .if2 .left)
-    (record {
-      correction = correctAnswer (corrected .correct .result);
-      corrects = subst (λ (x : ℕ). Corrects x (correctAnswer (corrected .correct .result))) w (corrected .correct .ensures);
-      follows =
-          subst (λ a. Follows (signWord xs) xs (correctAnswer a) (quickAnswer (c .chosen .result))) (sym (told .enum-told .given .1))
-          (subst (λ (x : ℕ). Chosen x xs (quickAnswer (c .chosen .result))) w (c .chosen .ensures));
-    })
+    let l = called .before .before .before .if1 .left in
+    let valid = sym (called .most-negative .ensures .is) ∙ test .if3 .left in
+    quick-settles xs l valid (quickAnswer (c .fillings .result)) (called .before .before .clear .ensures .some (called .before .if2 .left) valid)
+    (subst (λ (ys : List ℤ). Settles ys (quickAnswer (c .fillings .result))) (padded-whole 24 xs l) (c .fillings .ensures))
 
 pub quick-spec : {M : Type 1} → statement M
 quick-spec =
     tie.close
     (tie.spec
     returns
-    most-negative-requires
+    clear-requires
+    signs-alone-requires
     returns-2
-    sign-word-requires
-    correct-requires
-    enum-known-codeword
-    enum-told
-    chosen-requires
+    most-negative-requires
     returns-3
+    fillings-requires
     returns-4)

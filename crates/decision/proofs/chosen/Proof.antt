@@ -1,4 +1,4 @@
--- `quick::chosen` meets its contract: at distance four the candidate call writes all six.
+-- `decision::chosen` meets its contract: at distance four the candidate call writes all six.
 -- Assumes nothing.
 use mathlib.Core.Path.{refl}
 use denote.Ref.{now}
@@ -6,9 +6,10 @@ use borrow.Author.Needs.{needs}
 use mir.Syntax.{w64}
 use mir.Val.{SFits}
 use Rattle.signed.proofs.Locals.{le-taken, le-left}
-use Rattle.quick.proofs.Choosing.{four-candidates, chosen-alone, chosen-shared}
-use Rattle.quick.proofs.chosen.Statement.{statement}
-use Rattle.quick.proofs.chosen.Tie as tie
+use Rattle.signs.specs.Signs.{padded}
+use Rattle.decision.proofs.Choosing.{four-candidates, chosen-alone, chosen-shared}
+use Rattle.decision.proofs.chosen.Statement.{statement}
+use Rattle.decision.proofs.chosen.Tie as tie
 
 slice-aggregate-candidates : tie.Need-slice-aggregate-candidates
 slice-aggregate-candidates c = search needs
@@ -27,19 +28,19 @@ returns c =
     let kept = c .before .before .before in
     let called = kept .before .before .before in
     let start = called .before .before in
-    let C = four-candidates (start .pre .1) refl (called .candidates .ensures) in
+    let C = four-candidates (start .pre) refl (called .candidates .ensures) in
     let f : SFits w64 (kept .cheapest .result .best) = search needs in
     let g : SFits w64 (kept .cheapest .result .second) = search needs in
-    chosen-shared (now (start .args .reading)) C (kept .cheapest .ensures) (le-taken f g (c .if1 .taken))
+    chosen-shared (padded 24 (now (start .args .reading))) C (kept .cheapest .ensures) (le-taken f g (c .if1 .taken))
 
 cast-at : tie.Need-cast-at
 cast-at c = search needs
 
-mul-t15 : tie.Need-mul-t15
-mul-t15 c = search needs
+mul-t14 : tie.Need-mul-t14
+mul-t14 c = search needs
 
-array-read-t18 : tie.Need-array-read-t18
-array-read-t18 c = search needs
+array-read-t17 : tie.Need-array-read-t17
+array-read-t17 c = search needs
 
 returns-2 : tie.Need-returns-2
 returns-2 c =
@@ -47,10 +48,10 @@ returns-2 c =
     let kept = test .before .before .before in
     let called = kept .before .before .before in
     let start = called .before .before in
-    let C = four-candidates (start .pre .1) refl (called .candidates .ensures) in
+    let C = four-candidates (start .pre) refl (called .candidates .ensures) in
     let f : SFits w64 (kept .cheapest .result .best) = search needs in
     let g : SFits w64 (kept .cheapest .result .second) = search needs in
-    chosen-alone (now (start .args .reading)) C (kept .cheapest .ensures) (le-left f g (test .if1 .left))
+    chosen-alone (padded 24 (now (start .args .reading))) C (kept .cheapest .ensures) (le-left f g (test .if1 .left))
 
 pub chosen-spec : {M : Type 1} → statement M
 chosen-spec =
@@ -62,6 +63,6 @@ chosen-spec =
     cheapest-requires
     returns
     cast-at
-    mul-t15
-    array-read-t18
+    mul-t14
+    array-read-t17
     returns-2)

@@ -20,7 +20,7 @@ use Rattle.hard.proofs.Rules.{correct-nearer}
 use Rattle.candidates.specs.Candidates.{_∈_, Ascending, Candidate, Candidates, AtFour}
 use Rattle.candidates.specs.Calls.{WritesCandidates, SlotsHold}
 use Rattle.candidates.proofs.Rules.{candidates-four}
-use Rattle.quick.specs.Quick.{costOf, merits, Chosen, alone, shared}
+use Rattle.decision.specs.Decision.{costOf, merits, Chosen, alone, shared}
 
 -- ---- at distance four
 
