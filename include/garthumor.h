@@ -53,13 +53,13 @@
 #include <stdint.h>
 
 /* The first number changes where a program that uses the library may have to change with it. */
-#define GARTHUMOR_VERSION "1.4.0"
-#define GARTHUMOR_VERSION_MAJOR 1
-#define GARTHUMOR_VERSION_MINOR 4
+#define GARTHUMOR_VERSION "2.0.0"
+#define GARTHUMOR_VERSION_MAJOR 2
+#define GARTHUMOR_VERSION_MINOR 0
 #define GARTHUMOR_VERSION_PATCH 0
 
 /* What a call returns (11.1). 9 and 10 are missing: they tell how a capture stops, and no call here
- * gives them. 13 to 17 have no meaning. */
+ * gives them. 13 and 15 to 17 have no meaning. */
 #define GARTHUMOR_ANSWERED 0
 #define GARTHUMOR_WRONG_LENGTH 1       /* not 24 confidences, 3 bytes, 6 slots or 4,096 counts */
 #define GARTHUMOR_MOST_NEGATIVE 2      /* a confidence is -2,147,483,648 */
@@ -71,6 +71,7 @@
 #define GARTHUMOR_NOT_DISTANCE_FOUR 8  /* nearer to the code than 4, so no six candidates */
 #define GARTHUMOR_CLASS_ABOVE 11       /* above 127 */
 #define GARTHUMOR_COUNT_FULL 12        /* a count past 4,294,967,295, or a total past 2^63 - 1 */
+#define GARTHUMOR_UNSETTLED 14         /* zeros in a reading leave open what quick would answer */
 #define GARTHUMOR_NO_COLUMN 18         /* not 1 to 6 */
 
 /* What garthumor_better returns (17.4). */
@@ -89,7 +90,9 @@ extern "C" {
 uint8_t garthumor_soft(const int32_t *reading, size_t length, uint32_t *message, uint32_t *codeword, int64_t *correlation, int64_t *reserve);
 
 /* For comparison: the signs as a word, corrected, or the candidate that goes against the least
- * confidence (9.2 to 9.5). It may give another codeword than soft does. Refuses 1, 2, 6. */
+ * confidence (9.2 to 9.6). A zero has no sign: up to four are filled with bits in every way, and each
+ * filling has to give the same codeword (9.7). It may give another codeword than soft does. Refuses 1,
+ * 2, 6, 14: 6 only without zeros, 14 only with them, and always with five or more. */
 uint8_t garthumor_quick(const int32_t *reading, size_t length, uint32_t *codeword);
 
 /* The figure of a class (8.2). Refuses 1, 2, 11. */

@@ -25,7 +25,7 @@ executed() { traced "$@" | wc -l; }
 between() { echo $(($(executed target/bench run "$1" "$2" 0 $((2 * $3))) - $(executed target/bench run "$1" "$2" 0 "$3"))); }
 # each CALL KIND N: one call, on average over n inputs of a kind
 each() { echo $((($(between "$1" "$2" "$3") - $(between none "$2" "$3")) / $3)); }
-# alone CALL: what each call executes with the host's own loop, for all 64 readings of each kind: the trace is cut where the loop enters it
+# alone CALL: what each call executes with the host's own loop, for all 64 readings of each of five kinds: the trace is cut where the loop enters it
 alone() {
     for kind in decent weak full extreme zeros; do
         traced target/bench run "$1" "$kind" 0 65 |

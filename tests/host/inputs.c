@@ -14,7 +14,7 @@ uint32_t chance(void)
 
 enum kind kind_named(const char *name)
 {
-    static const char *const names[KINDS] = { "decent", "weak", "full", "extreme", "zeros" };
+    static const char *const names[KINDS] = { "decent", "weak", "full", "extreme", "zeros", "four" };
     int kind = 0;
     while (kind < KINDS && strcmp(names[kind], name) != 0)
         kind++;
@@ -31,6 +31,7 @@ static int32_t confidence(enum kind kind, int one)
     static const int32_t ends[3] = { -INT32_MAX, 0, INT32_MAX };
     switch (kind) {
     case DECENT:
+    case FOUR:
         return (one ? -1000000 : 1000000) + within(700000);
     case WEAK:
         return within(3);
@@ -47,4 +48,15 @@ void fill_reading(int32_t reading[POSITIONS], enum kind kind, uint32_t codeword)
 {
     for (int i = 0; i < POSITIONS; i++)
         reading[i] = confidence(kind, codeword >> (23 - i) & 1);
+    if (kind == FOUR)
+        add_zeros(reading, 4);
+}
+
+void add_zeros(int32_t reading[POSITIONS], uint32_t count)
+{
+    while (count > 0) {
+        uint32_t place = chance() % POSITIONS;
+        count -= reading[place] != 0;
+        reading[place] = 0;
+    }
 }

@@ -27,6 +27,9 @@ enum { KNOWN = 64, GUARD_COUNTS = 64 };
 /* No word is farther from the code; two codewords are not nearer to each other. */
 enum { FARTHEST = 4, LEAST_BETWEEN = 8 };
 
+/* Of more zeros quick tries no filling. A tied word is decided for NO_WORD. */
+enum { MOST_ZEROS = 4, NO_WORD = WORDS };
+
 /* Of the calls that need all codewords one in so many is looked into: a million calls take a few
  * seconds, and not minutes under an emulator. */
 enum { LOOKED_INTO = 16 };
@@ -93,6 +96,10 @@ static int encodes(uint32_t message, uint32_t codeword)
  * from the code they lie. */
 static uint32_t patterns[MESSAGES], distances[MESSAGES];
 
+/* At the greatest distance: all of them, by which a word differs from its candidates. */
+static uint32_t fours[MESSAGES][SLOTS];
+static size_t four_count[MESSAGES];
+
 /* A word with its ones below a place, and all that it makes with more ones from there on. */
 static void list_patterns(uint32_t word, uint32_t ones, int place)
 {
@@ -101,6 +108,8 @@ static void list_patterns(uint32_t word, uint32_t ones, int place)
         patterns[s] = word;
         distances[s] = ones;
     }
+    if (ones == FARTHEST)
+        fours[s][four_count[s]++] = word;
     for (; ones < FARTHEST && place < POSITIONS; place++)
         list_patterns(word | 1u << place, ones + 1, place + 1);
 }
@@ -164,24 +173,61 @@ static void speak_for(uint32_t codeword, int32_t *reading)
             reading[i] = -reading[i];
 }
 
-static void some_reading(int32_t *reading)
+/* Negates the confidences where a codeword has a 1; the one that has no opposite stays. */
+static void turn(uint32_t codeword, int32_t *reading)
+{
+    for (int i = 0; i < POSITIONS; i++)
+        if (codeword >> (23 - i) & 1 && reading[i] != INT32_MIN)
+            reading[i] = -reading[i];
+}
+
+/* At times, at one place. */
+static void some_extreme(int32_t *reading)
 {
     static const int32_t extremes[] = { INT32_MIN, -INT32_MAX, -1, 0, 1, INT32_MAX };
-    fill_reading(reading, (enum kind)(chance() % KINDS), some_codeword());
-    if (chance() % 8 == 0)
-        speak_for(some_codeword(), reading);
     if (chance() % 8 == 0)
         reading[chance() % POSITIONS] = extremes[chance() % (sizeof extremes / sizeof extremes[0])];
 }
 
-static const int32_t *lend_reading(size_t length)
+static void some_reading(int32_t *reading)
+{
+    fill_reading(reading, (enum kind)(chance() % KINDS), some_codeword());
+    if (chance() % 8 == 0)
+        speak_for(some_codeword(), reading);
+    some_extreme(reading);
+}
+
+/* A codeword with up to four zeros, and errors beside them so that a filling has up to five wrong bits,
+ * mostly four; or with more zeros, often one or two more, and no error. Sizes are of the whole range, or
+ * so small that costs are often equal, where an error may be as loud as four others. */
+static void some_reading_with_zeros(int32_t *reading)
+{
+    uint32_t small = chance() % 2, most = small ? 2 : INT32_MAX, loudest = small ? 8 : INT32_MAX;
+    uint32_t zeros = chance() % (MOST_ZEROS + 1), errors = chance() % 2 ? 4 - zeros : chance() % (6 - zeros);
+    uint32_t sort = chance() % 8;
+    if (sort < 2) {
+        zeros = MOST_ZEROS + 1 + chance() % (sort == 0 ? 2 : POSITIONS - MOST_ZEROS);
+        errors = 0;
+    }
+    for (int i = 0; i < POSITIONS; i++)
+        reading[i] = 1 + (int32_t)(chance() % most);
+    for (; errors > 0; errors--)
+        reading[chance() % POSITIONS] = -1 - (int32_t)(chance() % loudest);
+    add_zeros(reading, zeros);
+    turn(some_codeword(), reading);
+    some_extreme(reading);
+}
+
+static const int32_t *lend_some(void (*some)(int32_t *reading), size_t length)
 {
     int32_t reading[LONGEST_SHORT] = { 0 };
     if (length > LONGEST_SHORT)
         return lend(INPUT, "reading", contents, length * sizeof *reading);
-    some_reading(reading);
+    some(reading);
     return lend(INPUT, "reading", reading, length * sizeof *reading);
 }
+
+static const int32_t *lend_reading(size_t length) { return lend_some(some_reading, length); }
 
 /* A reading for each receiver. One in four of the second is that of the first, negated where a
  * codeword has a 1, so that both have one reserve. */
@@ -191,9 +237,8 @@ static void some_pair(int32_t *one, int32_t *other)
     some_reading(other);
     if (chance() % 4 != 0)
         return;
-    uint32_t codeword = some_codeword();
-    for (int i = 0; i < POSITIONS; i++)
-        other[i] = codeword >> (23 - i) & 1 && one[i] != INT32_MIN ? -one[i] : one[i];
+    memcpy(other, one, POSITIONS * sizeof *one);
+    turn(some_codeword(), other);
 }
 
 /* Whole readings, mostly all of them; or one confidence more or less. */
@@ -264,14 +309,59 @@ static uint32_t word_of_signs(const int32_t *reading)
     return word;
 }
 
+/* A 1 at each zero. */
+static uint32_t word_of_zeros(const int32_t *reading)
+{
+    uint32_t word = 0;
+    for (int i = 0; i < POSITIONS; i++)
+        word = 2 * word + (reading[i] == 0);
+    return word;
+}
+
+static uint32_t ones_in(uint32_t word) { return distance_between(word, 0); }
+
 /* The signs are a codeword, and too few confidences are zero for another to differ from it at zeros
  * alone: no other has so large a correlation. */
 static int one_best_by_signs(const int32_t *reading)
 {
-    int zeros = 0;
+    return ones_in(word_of_zeros(reading)) < LEAST_BETWEEN && is_codeword(word_of_signs(reading));
+}
+
+static int64_t cost_of(uint32_t error, const int32_t *reading)
+{
+    int64_t cost = 0;
     for (int i = 0; i < POSITIONS; i++)
-        zeros += reading[i] == 0;
-    return zeros < LEAST_BETWEEN && is_codeword(word_of_signs(reading));
+        if (error >> (23 - i) & 1)
+            cost += reading[i] < 0 ? -(int64_t)reading[i] : reading[i];
+    return cost;
+}
+
+/* The codeword that corrects a word, or its only candidate with the least cost. */
+static uint32_t decided(uint32_t word, const int32_t *reading)
+{
+    uint32_t s = syndrome_of(word), codeword = NO_WORD;
+    int64_t least = INT64_MAX;
+    if (distances[s] < FARTHEST)
+        return word ^ patterns[s];
+    for (int i = 0; i < SLOTS; i++) {
+        int64_t cost = cost_of(fours[s][i], reading);
+        if (cost < least)
+            codeword = word ^ fours[s][i];
+        else if (cost == least)
+            codeword = NO_WORD;
+        least = cost < least ? cost : least;
+    }
+    return codeword;
+}
+
+/* The codeword that each filling is decided for: the signs, with every choice of ones at zeros. */
+static uint32_t settled(const int32_t *reading)
+{
+    uint32_t signs = word_of_signs(reading), zeros = word_of_zeros(reading), codeword = decided(signs, reading);
+    for (uint32_t ones = zeros; ones != 0; ones = (ones - 1) & zeros)
+        if (decided(signs | ones, reading) != codeword)
+            return NO_WORD;
+    return codeword;
 }
 
 /* ---- what a look at every codeword says */
@@ -330,19 +420,6 @@ static struct top soft_top(const int32_t *reading)
 {
     int64_t sums[MESSAGES];
     correlate(reading, sums);
-    return top_of(sums);
-}
-
-/* Of the codewords at distance 4 from the signs: what one costs, twice, is what its correlation
- * lacks to that of the signs themselves, so the cheapest has the largest. */
-static struct top quick_top(const int32_t *reading)
-{
-    int64_t sums[MESSAGES];
-    uint32_t signs = word_of_signs(reading);
-    correlate(reading, sums);
-    for (uint32_t m = 0; m < MESSAGES; m++)
-        if (distance_between(signs, codewords[m]) != FARTHEST)
-            sums[m] = INT64_MIN;
     return top_of(sums);
 }
 
@@ -536,24 +613,24 @@ static struct outcome try_soft(void)
     return judged(given, asked_unseen(given), fact, "the four values do not fit each other");
 }
 
+/* How often quick answered, and how often it refused, readings without zeros, with one to four, and with
+ * more. */
+static unsigned long quick_often[3][2];
+
 static struct outcome try_quick(void)
 {
     size_t length = some_length(POSITIONS);
-    const int32_t *reading = lend_reading(length);
+    const int32_t *reading = lend_some(chance() % 2 ? some_reading : some_reading_with_zeros, length);
     uint32_t *codeword = lend_output("codeword", sizeof *codeword);
     uint8_t given = garthumor_quick(reading, length, codeword);
     uint8_t asked = asked_of_reading(reading, length);
     if (asked != 0)
         return judged(given, asked, 0, "answered");
-    uint32_t signs = word_of_signs(reading), distance = distance_from_code(signs);
-    int fact = is_codeword(*codeword) && distance_between(signs, *codeword) == distance;
-    if (distance < FARTHEST)
-        return judged(given, 0, fact, "not the corrected signs");
-    if (looked_into()) {
-        struct top top = quick_top(reading);
-        return judged(given, asked_of_top(top), *codeword == codewords[top.message], "not the cheapest candidate");
-    }
-    return judged(given, asked_unseen(given), fact, "no candidate");
+    uint32_t zeros = ones_in(word_of_zeros(reading)), answer = zeros > MOST_ZEROS ? NO_WORD : settled(reading);
+    quick_often[(zeros > 0) + (zeros > MOST_ZEROS)][given != 0]++;
+    if (answer == NO_WORD)
+        asked = zeros == 0 ? 6 : 14;
+    return judged(given, asked, *codeword == answer, "not the codeword that every filling is decided for");
 }
 
 static struct outcome try_better(void)
@@ -769,7 +846,7 @@ static const struct {
     { "class_figure", try_class_figure, { 1, 2, 11 } },
     { "column_figure", try_column_figure, { 1, 2, 11, 18 } },
     { "soft", try_soft, { 1, 2, 6 } },
-    { "quick", try_quick, { 1, 2, 6 } },
+    { "quick", try_quick, { 1, 2, 6, 14 } },
     { "better", try_better, { 1, 2 } },
     { "count", try_count, { 1, 12 } },
     { "write_bytes", try_write_bytes, { 1, 4, 5 } },
@@ -815,6 +892,15 @@ static int shows_little(size_t which, unsigned long count)
     return little;
 }
 
+/* The same of quick, by the zeros of its readings. */
+static int shows_little_of_zeros(void)
+{
+    const unsigned long *none = quick_often[0], *few = quick_often[1], *more = quick_often[2];
+    printf("quick         gave 0: %lu, 6: %lu without zeros; 0: %lu, 14: %lu with one to four; 14: %lu with more\n", none[0],
+           none[1], few[0], few[1], more[1]);
+    return none[0] == 0 || none[1] == 0 || few[0] == 0 || few[1] == 0 || more[1] == 0;
+}
+
 int main(int argc, char **argv)
 {
     unsigned long wrong = 0;
@@ -838,6 +924,7 @@ int main(int argc, char **argv)
         wrong += (unsigned long)one_call(number, wrong < SHOWN);
     for (size_t which = 0; which < CALLS; which++)
         little |= shows_little(which, count);
+    little |= shows_little_of_zeros();
     printf("%lu calls, %lu held to every codeword, %lu wrong\n", count, looks, wrong);
     return wrong != 0 || little;
 }

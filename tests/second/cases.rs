@@ -1,6 +1,7 @@
 //! The kinds of cases: which ones a seed gives, and the fixed ones that are kept as fixtures.
 
 mod favours;
+mod fillings;
 mod golay;
 mod hard;
 mod quick;
@@ -102,7 +103,7 @@ fn zeros() -> Vec<i32> {
 
 /// Wrong lengths, the forbidden confidence and its neighbour at each place, and both at once. Most
 /// stand in readings that are made for the purpose; zeros and the tied reading would be refused
-/// with 6 but for the earlier refusal.
+/// with a later number but for this one.
 fn refused_readings(mut reading: impl FnMut(usize) -> Vec<i32>, tied: &[i32]) -> Vec<Vec<i32>> {
     let mut readings = Vec::new();
     for place in 0..POSITIONS {

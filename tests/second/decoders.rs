@@ -19,6 +19,7 @@ pub enum Refusal {
     CutShort = 10,
     ClassAbove = 11,
     CountFull = 12,
+    Unsettled = 14,
     NoColumn = 18,
 }
 
@@ -27,6 +28,8 @@ pub const CLASSES: u32 = 128;
 const CLASS_SIZE: usize = 32;
 const WORD_BYTES: usize = 3;
 const SLOTS: usize = 6;
+/// Of more zeros no filling is tried (9.7).
+const MOST_ZEROS: usize = 4;
 
 /// A reading that passed the refusals 1 and 2; 64 bits, so that no sum or negation can overflow.
 type Reading = [i64; POSITIONS];
@@ -94,11 +97,19 @@ fn place_of_largest(numbers: &[i64], left_out: Option<usize>) -> usize {
         .expect("a number to choose")
 }
 
-/// A zero is no negative number, and so bit 0 (9.2).
-fn word_of_signs(reading: &Reading) -> u32 {
-    reading
-        .iter()
-        .fold(0, |word, &confidence| word << 1 | u32::from(confidence < 0))
+/// Every word that has bit 1 where the confidence is negative, bit 0 where it is positive, and either
+/// where it is zero (9.2). Without zeros that is one, the word of signs.
+pub fn fillings(reading: &Reading) -> Vec<u32> {
+    let with_bits = |words: Vec<u32>, confidence: &i64| {
+        let bits: &[u32] = match confidence.signum() {
+            1 => &[0],
+            -1 => &[1],
+            _ => &[0, 1],
+        };
+        let longer = |word: u32| bits.iter().map(move |bit| word << 1 | bit);
+        words.into_iter().flat_map(longer).collect()
+    };
+    reading.iter().fold(vec![0], with_bits)
 }
 
 fn cost_of_differing(word: u32, candidate: u32, reading: &Reading) -> i64 {
@@ -309,23 +320,43 @@ impl Code {
         }
     }
 
-    pub fn quick(&self, confidences: &[i32]) -> Result<u32, Refusal> {
-        let reading = checked(confidences)?;
-        let word = word_of_signs(&reading);
+    /// The codeword that a word is decided for: of the nearest ones that with the smallest cost (9.3,
+    /// 9.4); none where two have it, which is a tied word (9.5).
+    pub fn decided(&self, word: u32, reading: &Reading) -> Option<u32> {
         // At distance 0 to 3 the list has one codeword, so the smallest cost is that codeword's.
         let (_, found) = self.nearest(word);
-        let costs: Vec<i64> = found
-            .iter()
-            .map(|&candidate| cost_of_differing(word, candidate, &reading))
+        let cost = |&candidate: &u32| cost_of_differing(word, candidate, reading);
+        let smallest = found.iter().map(cost).min().expect("a nearest codeword");
+        let cheapest: Vec<u32> = found
+            .into_iter()
+            .filter(|candidate| cost(candidate) == smallest)
             .collect();
-        let smallest = *costs.iter().min().expect("a nearest codeword");
-        if costs.iter().filter(|&&cost| cost == smallest).count() > 1 {
-            return Err(Refusal::Tied);
+        match cheapest[..] {
+            [codeword] => Some(codeword),
+            _ => None,
         }
-        let place = costs
+    }
+
+    /// The codeword that every filling is decided for; none where one is tied or two differ.
+    fn settled(&self, reading: &Reading) -> Option<u32> {
+        let decided: Vec<Option<u32>> = fillings(reading)
+            .into_iter()
+            .map(|word| self.decided(word, reading))
+            .collect();
+        let first = decided[0]?;
+        decided
             .iter()
-            .position(|&cost| cost == smallest)
-            .expect("the smallest cost");
-        Ok(found[place])
+            .all(|&codeword| codeword == Some(first))
+            .then_some(first)
+    }
+
+    pub fn quick(&self, confidences: &[i32]) -> Result<u32, Refusal> {
+        let reading = checked(confidences)?;
+        let zeros = reading.iter().filter(|&&confidence| confidence == 0);
+        match zeros.count() {
+            0 => self.settled(&reading).ok_or(Refusal::Tied),
+            1..=MOST_ZEROS => self.settled(&reading).ok_or(Refusal::Unsettled),
+            _ => Err(Refusal::Unsettled),
+        }
     }
 }

@@ -25,6 +25,16 @@ pub const KINDS: [Kind; 9] = [
 /// Kinds for the quick decoder, whose own ties need a word at distance 4.
 pub const QUICK_KINDS: [Kind; 3] = [four_wrong, four_wrong_of_one_size, four_wrong_full_range];
 
+/// Kinds for the quick decoder's fillings, which zeros make (9.2).
+pub const KINDS_WITH_ZEROS: [Kind; 6] = [
+    zeros_and_errors,
+    zeros_and_errors_full_range,
+    zeros_halfway,
+    zeros_halfway_full_range,
+    zeros_in_any_kind,
+    any_number_of_zeros,
+];
+
 /// The reading that speaks for a word with the given sizes; a size below zero speaks against it.
 pub fn speaking_for(word: u32, sizes: &[i64]) -> Vec<i32> {
     let signed =
@@ -130,7 +140,7 @@ fn four_wrong_of_sizes(chance: &mut Chance, code: &Code, least: i64, most: i64) 
     speaking_for(word, &sizes)
 }
 
-/// Sizes from 0: a zero speaks for bit 0, so it moves the word of signs as well.
+/// Sizes from 0: mostly there are more zeros than are filled (9.7).
 fn four_wrong(chance: &mut Chance, code: &Code) -> Vec<i32> {
     four_wrong_of_sizes(chance, code, 0, 3)
 }
@@ -142,4 +152,101 @@ fn four_wrong_of_one_size(chance: &mut Chance, code: &Code) -> Vec<i32> {
 
 fn four_wrong_full_range(chance: &mut Chance, code: &Code) -> Vec<i32> {
     four_wrong_of_sizes(chance, code, 0, MOST)
+}
+
+/// Zeros and errors at up to five places of a codeword. With four, one filling is at distance 4 from
+/// it, so that costs decide; with five, one is nearer to another codeword.
+fn zeros_and_errors_of_sizes(
+    chance: &mut Chance,
+    code: &Code,
+    most: i64,
+    loudest: i64,
+) -> Vec<i32> {
+    let mut sizes = sizes(chance, 1, most);
+    let wrong = chance.between(1, 5);
+    let zeros = chance.between(1, wrong);
+    for (i, place) in (0..wrong).zip(chance.order(POSITIONS)) {
+        sizes[place] = if i < zeros {
+            0
+        } else {
+            -chance.between(1, loudest)
+        };
+    }
+    speaking_for(any_codeword(chance, code), &sizes)
+}
+
+/// One error among three zeros has to be as loud as four others to tie with them.
+fn zeros_and_errors(chance: &mut Chance, code: &Code) -> Vec<i32> {
+    zeros_and_errors_of_sizes(chance, code, 3, 12)
+}
+
+fn zeros_and_errors_full_range(chance: &mut Chance, code: &Code) -> Vec<i32> {
+    zeros_and_errors_of_sizes(chance, code, MOST, MOST)
+}
+
+/// Two codewords differ at eight places: four that are zeros or errors, and four others. The filling
+/// that lies halfway between the two decides by costs: the errors cost what the others do, and so
+/// much more.
+pub fn halfway(
+    mut sizes: Vec<i64>,
+    zeros: &[usize],
+    errors: &[usize],
+    others: &[usize],
+    more: i64,
+) -> Vec<i64> {
+    let mut cost = more + others.iter().map(|&place| sizes[place]).sum::<i64>();
+    for (i, &place) in errors.iter().enumerate() {
+        let share = cost / (errors.len() - i) as i64;
+        sizes[place] = -share;
+        cost -= share;
+    }
+    zeros.iter().for_each(|&place| sizes[place] = 0);
+    sizes
+}
+
+/// Costs that are equal or differ by one; a place that is no part of them costs more.
+fn zeros_halfway_of_sizes(chance: &mut Chance, code: &Code, most: i64) -> Vec<i32> {
+    let mut octads = code.codewords.clone();
+    octads.retain(|codeword| codeword.count_ones() == 8);
+    let octad = chance.pick(&octads);
+    let mut places = chance.order(POSITIONS);
+    places.retain(|&place| bit_at(octad, place));
+    let (half, others) = places.split_at(4);
+    let (zeros, errors) = half.split_at(chance.below(4) as usize);
+    let mut sizes = sizes(chance, most - 1, most);
+    for &place in others {
+        // So that no error has to be louder than the loudest.
+        sizes[place] = chance.between(2, errors.len() as i64 * most / 4 - 1);
+    }
+    let sizes = halfway(sizes, zeros, errors, others, chance.between(-1, 1));
+    speaking_for(any_codeword(chance, code), &sizes)
+}
+
+fn zeros_halfway(chance: &mut Chance, code: &Code) -> Vec<i32> {
+    zeros_halfway_of_sizes(chance, code, 12)
+}
+
+fn zeros_halfway_full_range(chance: &mut Chance, code: &Code) -> Vec<i32> {
+    zeros_halfway_of_sizes(chance, code, MOST)
+}
+
+/// The reading with up to so many zeros at random places.
+fn with_zeros(chance: &mut Chance, mut reading: Vec<i32>, most: i64) -> Vec<i32> {
+    let zeros = chance.between(0, most) as usize;
+    for &place in &chance.order(POSITIONS)[..zeros] {
+        reading[place] = 0;
+    }
+    reading
+}
+
+fn zeros_in_any_kind(chance: &mut Chance, code: &Code) -> Vec<i32> {
+    let reading = chance.pick(&KINDS)(chance, code);
+    with_zeros(chance, reading, 5)
+}
+
+/// No error beside them, so that their number alone decides.
+fn any_number_of_zeros(chance: &mut Chance, code: &Code) -> Vec<i32> {
+    let sizes = sizes(chance, 1, 3);
+    let reading = speaking_for(any_codeword(chance, code), &sizes);
+    with_zeros(chance, reading, POSITIONS as i64)
 }

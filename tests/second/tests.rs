@@ -2,6 +2,7 @@
 //!
 //! Built by `rustc -O --test --edition 2021 -o target/second-tests tests/second/main.rs`.
 
+mod quick;
 mod tally;
 
 use crate::capture;
@@ -149,7 +150,7 @@ fn worked_readings() {
     let cases = [
         (runs(&[(24, 1)]), "answered 0 0 24 8", "answered 0"),
         (runs(&[(1, -1), (23, 1)]), "answered 0 0 22 6", "answered 0"),
-        (runs(&[(24, 0)]), "refused 6", "answered 0"),
+        (runs(&[(24, 0)]), "refused 6", "refused 14"),
         (runs(&[(1, -100), (23, 1)]), "refused 6", "answered 0"),
         (
             runs(&[(4, -100), (16, 2), (4, 1)]),

@@ -10,6 +10,7 @@ use Rattle.golay.specs.Answers.{Answer, accepted, refused}
 use Rattle.golay.proofs.Decided.{said-once}
 use Rattle.hard.specs.Answers.{Correction}
 use Rattle.hard.proofs.Decided.{correct-once}
+use Rattle.hard.proofs.Meaning.{no-answer}
 use Rattle.decision.specs.declared.kinds.Decision.{Decision}
 use Rattle.decision.specs.declared.kinds.Decision.the-variants as decision
 use Rattle.decision.specs.Decision.{decisionAnswer, Cheapest, TwoCheapest, Chosen, alone, shared, Follows, Decides}
@@ -47,6 +48,16 @@ pub decides-one : {word : ℕ} {xs : List ℤ} {a b : Answer ℕ} → Decides wo
 decides-one {word} {xs} p q =
     let e = correct-once word (p .correction) (q .correction) (p .corrects) (q .corrects) in
     follows-one word xs (q .correction) (rw e at (p .follows)) (q .follows)
+
+-- a word is decided for one codeword, or tied
+pub decided-same : {word : ℕ} {xs : List ℤ} {c d : ℕ} → Decides word xs (accepted c) → Decides word xs (accepted d) → c ≡ d
+decided-same p q = same (decides-one p q)
+  where
+    same : {c d : ℕ} → _≡_ {A = Answer ℕ} (accepted c) (accepted d) → c ≡ d
+    same e = cc
+
+pub tied-alone : {word : ℕ} {xs : List ℤ} {c : ℕ} → Decides word xs (refused 6) → Decides word xs (accepted c) → ⊥
+tied-alone p q = no-answer (decides-one q p)
 
 -- ---- of the call's own answers, which are made again from what they stand for
 

@@ -1,6 +1,7 @@
 -- Rules 9.3 to 9.5: what a word of signs is decided for by a reading, after source document 003, over hard correction.
 use mathlib.Core.Path.{_≡_}
 use mathlib.Core.Logic.{_≢_}
+use mathlib.Core.Bool.{Bool, true, false}
 use mathlib.Core.List.{List}
 use Prim.Native.Nat.{ℕ, _≤_, _<_}
 use lib.IntN.{ℤ, pos, negℤ}
@@ -59,3 +60,8 @@ pub record Decides (word : ℕ) (xs : List ℤ) (answer : Answer ℕ) : Type 0 w
   pub correction : Answer Correction
   pub corrects : Corrects word correction
   pub follows : Follows word xs correction answer
+
+-- whether a word is decided for c
+pub record Gives (c word : ℕ) (xs : List ℤ) (r : Bool) : Type 0 where
+  pub gives : r ≡ true → Decides word xs (accepted c)
+  pub gives-not : r ≡ false → Decides word xs (accepted c) → ⊥

@@ -7,8 +7,8 @@ ghost use Rattle.signed.specs.Within.{Within};
 ghost use Rattle.contest.specs.Largest.{Best};
 ghost use Rattle.code.specs.Code.{positions, words, syndromeOf};
 ghost use Rattle.candidates.specs.Candidates.{AtFour};
-ghost use Rattle.signs.specs.Signs.{cost, padded};
-ghost use Rattle.decision.specs.Decision.{decisionAnswer, merits, Chosen, Decides};
+ghost use Rattle.signs.specs.Signs.{cost, whole};
+ghost use Rattle.decision.specs.Decision.{decisionAnswer, merits, Chosen, Decides, Gives};
 
 pub mod kinds;
 
@@ -20,7 +20,7 @@ use kinds::Decision;
 
 // A cost, negated: the cheapest has the largest.
 fn merit(error: u32, reading: &[i32]) -> i64
-    ensures { λ r. ⌜ r ≡ negℤ (pos (cost error (padded positions (now (reading .entry))))) ⌝ }
+    ensures { λ r. ⌜ r ≡ negℤ (pos (cost error (whole positions (now (reading .entry))))) ⌝ }
     ensures { λ r. ⌜ Within 51539607552 r ⌝ }
 {
     -(signs::cost(error, reading) as i64)
@@ -29,7 +29,7 @@ fn merit(error: u32, reading: &[i32]) -> i64
 // The two largest merits of six candidates, and where the largest is.
 fn cheapest(word: u32, slots: &[u32], reading: &[i32]) -> Keeper
     requires { ⌜ length (now slots) ≡ 6 ⌝ }
-    ensures { λ r. ⌜ Best (merits word (padded positions (now (reading .entry))) (now (slots .entry))) 0 6 (r .best) (r .second) (r .at) ⌝ }
+    ensures { λ r. ⌜ Best (merits word (whole positions (now (reading .entry))) (now (slots .entry))) 0 6 (r .best) (r .second) (r .at) ⌝ }
 {
     let mut kept = Keeper::first(merit(word ^ slots[0], reading), 0);
     let mut i: u32 = 1;
@@ -43,7 +43,7 @@ fn cheapest(word: u32, slots: &[u32], reading: &[i32]) -> Keeper
 // The candidate that costs least, for a word that correction refuses.
 fn chosen(word: u32, reading: &[i32]) -> Decision
     requires { ⌜ AtFour word (syndromeOf word) ⌝ }
-    ensures { λ r. ⌜ Chosen word (padded positions (now (reading .entry))) (decisionAnswer r) ⌝ }
+    ensures { λ r. ⌜ Chosen word (whole positions (now (reading .entry))) (decisionAnswer r) ⌝ }
 {
     let mut slots: [u32; 6] = [0; 6];
     candidates::candidates(word, &mut slots);
@@ -57,14 +57,29 @@ fn chosen(word: u32, reading: &[i32]) -> Decision
     Decision::For(Codeword(slots[at]))
 }
 
-// What a word is decided for, by a reading. Of a number that is no word the lowest 24 bits count, and of a slice that is no reading the first 24
-// confidences, 0 for each that is missing.
+// What a word is decided for, by a reading. Of a number that is no word the lowest 24 bits count, and by a slice that is no reading nothing
+// costs anything.
 pub fn decide(word: u32, reading: &[i32]) -> Decision
-    ensures { λ r. ⌜ Decides (word % words) (padded positions (now (reading .entry))) (decisionAnswer r) ⌝ }
+    ensures { λ r. ⌜ Decides (word % words) (whole positions (now (reading .entry))) (decisionAnswer r) ⌝ }
 {
     let w = word % WORDS;
     match hard::correct(w) {
         CorrectAnswer::Accepted(codeword, _) => Decision::For(codeword),
         CorrectAnswer::Refused(_) => chosen(w, reading),
+    }
+}
+
+// Whether a word is decided for a codeword. It is not said by `decide`, so that the choice among candidates, which is long, stands for both of them
+// once, and what most words need stays short.
+pub fn gives(codeword: u32, word: u32, reading: &[i32]) -> bool
+    ensures { λ r. ⌜ Gives codeword (word % words) (whole positions (now (reading .entry))) r ⌝ }
+{
+    let w = word % WORDS;
+    match hard::correct(w) {
+        CorrectAnswer::Accepted(c, _) => c.0 == codeword,
+        CorrectAnswer::Refused(_) => match chosen(w, reading) {
+            Decision::For(c) => c.0 == codeword,
+            Decision::Tied => false,
+        },
     }
 }

@@ -17,11 +17,10 @@ use Rattle.signs.specs.Signs.{signWord}
 use Rattle.signs.specs.Fillings.{zeros}
 use Rattle.signs.proofs.Fillings.{sign-filling}
 use Rattle.decision.specs.Decision.{Decides}
-use Rattle.decision.proofs.Decided.{decides-one}
+use Rattle.decision.proofs.Decided.{decides-one, decided-same}
 use Rattle.quick.specs.declared.kinds.QuickAnswer.{QuickAnswer}
 use Rattle.quick.specs.declared.kinds.QuickAnswer.the-variants as quick
 use Rattle.quick.specs.Quick.{quickAnswer, Settles, settled, unsettled, Answers, QuickRule}
-use Rattle.quick.proofs.Settling.{decided-same}
 
 module _ (xs : List ℤ) where
   pub quick-length : (length xs ≡ 24 → ⊥) → QuickRule xs (refused 1)

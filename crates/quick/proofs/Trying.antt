@@ -9,6 +9,7 @@ use native.Mathlib.Decide.{decLt}
 use lib.IntN.{ℤ}
 use lib.ListN.{length}
 use lib.Bits.{bitAnd}
+use lib.Pow.{pow-mono}
 use Rattle.golay.specs.Answers.{accepted}
 use Rattle.signs.specs.Signs.{signWord}
 use Rattle.signs.specs.Fillings.{zeroWord, Filling}
@@ -45,8 +46,8 @@ module _ {c : ℕ} {xs : List ℤ} {least zeros : ℕ} (l : least ≡ signWord x
     next-filling = subst (λ (w : ℕ). Filling xs (w + next)) (sym l) (choice-filling xs next (lower .choice))
 
     -- it is a word of as many bits as there are positions
-    pub next-short : {n : ℕ} → length xs ≡ n → least + next < 2 ^ n
-    next-short e = subst (λ (k : ℕ). least + next < 2 ^ k) e (next-filling .short)
+    pub next-short : {n : ℕ} → length xs ≤ n → least + next < 2 ^ n
+    next-short h = omega (arith, next-filling .short, pow-mono h)
 
     pub tried-next : Decides (least + next) xs (accepted c) → Tried c xs next
     tried-next d = record { choice = lower .choice; higher = higher }

@@ -1,4 +1,6 @@
 -- Rules 9.1, 9.6 and 9.7: the quick decoder: what the fillings of a reading are decided for.
+use mathlib.Core.Path.{_≡_}
+use mathlib.Core.Bool.{Bool, true, false}
 use mathlib.Core.List.{List}
 use Prim.Native.Nat.{ℕ, zero, suc, _≤_}
 use lib.IntN.{ℤ}
@@ -42,3 +44,8 @@ QuickRule xs = Refuse WrongLength (wrongLength positions xs) (Refuse MostNegativ
 -- zeros.
 unfoldable pub SignsRule : List ℤ → Answer ℕ → Type 0
 SignsRule xs = Refuse WrongLength (wrongLength positions xs) (Refuse MostNegative (mostNegative xs) (Decides (signWord xs) xs))
+
+-- whether every filling is decided for c
+pub record AllGive (c : ℕ) (xs : List ℤ) (r : Bool) : Type 0 where
+  pub all : r ≡ true → (word : ℕ) → Filling xs word → Decides word xs (accepted c)
+  pub not-all : r ≡ false → ((word : ℕ) → Filling xs word → Decides word xs (accepted c)) → ⊥

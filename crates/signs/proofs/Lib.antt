@@ -1,4 +1,4 @@
-pub mod Padded
+pub mod Whole
 pub mod Turns
 pub mod Zeros
 pub mod Fillings

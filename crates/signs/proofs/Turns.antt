@@ -18,8 +18,8 @@ use Rattle.signed.specs.Within.{Within}
 use Rattle.signed.proofs.Locals.{reads}
 use Rattle.contest.specs.Words.{one}
 use Rattle.contest.proofs.Numbers.{one-small}
-use Rattle.signs.specs.Signs.{marked, cost, padded}
-use Rattle.signs.proofs.Padded.{padded-length, padded-at}
+use Rattle.signs.specs.Signs.{marked, cost, whole}
+use Rattle.signs.proofs.Whole.{whole-itself, whole-none}
 
 -- a widened confidence, as the next call reads it
 pub wide-read : {z x : ℤ} → (z ≡ x) × Within 2147483648 z → toZ w64 (ofZ w64 z) ≡ x
@@ -52,15 +52,16 @@ marked-turn test xs i word h =
     ap (marked test) (left-cons xs i h) ∙ ap (λ (k : ℕ). b * 2 ^ k + marked test (drop (i + 1) xs)) (length-drop (i + 1) xs) in
     omega (arith, s, ap (λ (k : ℕ). word * 2 ^ k) e, ap (λ (k : ℕ). word * k) (pow-suc 2 n), doubled word (2 ^ n), add-mul (2 * word) b (2 ^ n))
 
--- the first i bits of the word of marks of a slice's first n confidences
+-- the first i bits of the word of marks of n confidences
 pub record Begun (test : ℤ → Bool) (n : ℕ) (xs : List ℤ) (word i : ℕ) : Type 0 where
+  pub long : length xs ≡ n
   pub within : i ≤ n
   pub short : word < 2 ^ i
-  pub whole : word * 2 ^ (length (padded n xs) - i) + marked test (drop i (padded n xs)) ≡ marked test (padded n xs)
+  pub rest : word * 2 ^ (length xs - i) + marked test (drop i xs) ≡ marked test xs
 
 module _ {test : ℤ → Bool} {n : ℕ} {xs : List ℤ} where
-  pub begun : Begun test n xs 0 0
-  begun = record { within = omega arith; short = omega arith; whole = omega arith }
+  pub begun : length xs ≡ n → Begun test n xs 0 0
+  begun l = record { long = l; within = omega arith; short = omega arith; rest = omega arith }
 
   module _ {word i : ℕ} (B : Begun test n xs word i) where
     -- a word of fewer than n bits leaves room for one more
@@ -68,30 +69,30 @@ module _ {test : ℤ → Bool} {n : ℕ} {xs : List ℤ} where
     begun-room h = let k : i ≤ n - 1 = omega arith in omega (arith, B .short, pow-mono k)
 
     pub begun-turn : i < n → {b : ℕ} → b ≡ one (test (getD xs i (pos 0))) → Begun test n xs (2 * word + b) (i + 1)
-    begun-turn h {b} e =
-        let ps = padded n xs in
-        let f : one (test (getD ps i (pos 0))) ≡ b = ap (λ (x : ℤ). one (test x)) (padded-at n xs i h) ∙ sym e in
-        let l : i < length ps = omega (arith, padded-length n xs) in
-        record {
-          within = omega arith;
-          short = omega (arith, e, one-small (test (getD xs i (pos 0))), ap (λ (k : ℕ). 2 ^ k) (add-one i), pow-suc 2 i, B .short);
-          whole =
-              ap (λ (x : ℕ). (2 * word + x) * 2 ^ (length ps - (i + 1)) + marked test (drop (i + 1) ps)) (sym f)
-              ∙ sym (marked-turn test ps i word l) ∙ B .whole;
-        }
+    begun-turn h {b} e = record {
+      long = B .long;
+      within = omega arith;
+      short = omega (arith, e, one-small (test (getD xs i (pos 0))), ap (λ (k : ℕ). 2 ^ k) (add-one i), pow-suc 2 i, B .short);
+      rest =
+          ap (λ (x : ℕ). (2 * word + x) * 2 ^ (length xs - (i + 1)) + marked test (drop (i + 1) xs)) e
+          ∙ sym (marked-turn test xs i word (omega (arith, B .long))) ∙ B .rest;
+    }
 
     pub begun-fits : i < n → {b : ℕ} → b ≡ one (test (getD xs i (pos 0))) → 2 * word + b < 2 ^ n
     begun-fits h e = let k : i + 1 ≤ n = omega arith in omega (arith, begun-turn h e .short, pow-mono k)
 
-    pub begun-end : i ≡ n → (word ≡ marked test (padded n xs)) × (word < 2 ^ n)
+    pub begun-end : i ≡ n → (word ≡ marked test (whole n xs)) × (word < 2 ^ n)
     unfolding marked
     begun-end e =
-        let ps = padded n xs in
-        let z : length ps - i ≡ 0 = omega (arith, padded-length n xs) in (
-          omega
-              (arith, B .whole, ap (marked test) (nothing-left ps i (e ∙ sym (padded-length n xs))), ap (λ (k : ℕ). word * 2 ^ k) z),
-          rw e at (B .short),
-        )
+        let z : length xs - i ≡ 0 = omega (arith, B .long) in
+        let f : word ≡ marked test xs =
+        omega (arith, B .rest, ap (marked test) (nothing-left xs i (e ∙ sym (B .long))), ap (λ (k : ℕ). word * 2 ^ k) z) in
+        (f ∙ ap (marked test) (sym (whole-itself n xs (B .long))), rw e at (B .short))
+
+-- of a slice that is no reading the word is 0
+pub none-marked : (test : ℤ → Bool) (n : ℕ) (xs : List ℤ) → (length xs ≡ n → ⊥) → 0 ≡ marked test (whole n xs)
+unfolding marked
+none-marked test n xs l = sym (ap (marked test) (whole-none n xs l))
 
 -- ---- a cost
 

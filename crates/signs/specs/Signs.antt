@@ -1,8 +1,9 @@
 -- Rules 9.2 and 9.4: the signs of a reading as a word, and what an error costs.
-use mathlib.Core.Bool.{Bool}
+use mathlib.Core.Bool.{Bool, cond}
 use mathlib.Core.List.{List, [], _∷_}
-use Prim.Native.Nat.{ℕ, zero, suc, _+_, _*_, _/_, _%_, _^_}
-use lib.IntN.{ℤ, pos, natAbs}
+use Prim.Native.Nat.{ℕ, _+_, _*_, _/_, _%_, _^_}
+use lib.Dec.{eqb}
+use lib.IntN.{ℤ, natAbs}
 use lib.ListN.{length}
 use Rattle.signed.specs.Sign.{sign}
 use Rattle.contest.specs.Words.{one}
@@ -21,8 +22,6 @@ unfoldable pub cost : ℕ → List ℤ → ℕ
 cost error [] = 0
 cost error (x ∷ xs) = error / 2 ^ length xs % 2 * natAbs x + cost error xs
 
--- the first n confidences of a slice, and 0 for each that is missing; a slice of n is itself
-unfoldable pub padded : ℕ → List ℤ → List ℤ
-padded zero xs = []
-padded (suc n) [] = pos 0 ∷ padded n []
-padded (suc n) (x ∷ xs) = x ∷ padded n xs
+-- a slice of n confidences, and nothing of any other
+abbrev pub whole : ℕ → List ℤ → List ℤ
+whole n xs = cond (eqb (length xs) n) xs []

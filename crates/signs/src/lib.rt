@@ -1,5 +1,5 @@
-// The signs of a reading as a word, its zeros as another, and what an error costs by it (rules 9.2 and 9.4). Of a slice that is no reading, these
-// take the first 24 confidences, and 0 for each that is missing.
+// The signs of a reading as a word, its zeros as another, and what an error costs by it (rules 9.2 and 9.4). Of a slice that is no reading all
+// three are 0.
 ghost use mathlib.Core.Path.{_≡_};
 ghost use Prim.Native.Nat.{_*_, _/_, _%_, _-_, _^_, _<_, _≤_};
 ghost use lib.IntN.{pos, natAbs};
@@ -7,7 +7,7 @@ ghost use lib.ListN.{getD};
 ghost use Rattle.signed.specs.Sign.{sign};
 ghost use Rattle.contest.specs.Words.{one};
 ghost use Rattle.code.specs.Code.{positions, words};
-ghost use Rattle.signs.specs.Signs.{padded, signWord};
+ghost use Rattle.signs.specs.Signs.{whole, signWord};
 ghost use Rattle.signs.specs.Fillings.{isZero, zeroWord, Clear};
 ghost use Rattle.signs.specs.Signs as rule;
 use golay::POSITIONS;
@@ -28,8 +28,11 @@ fn sign_bit(reading: &[i32], i: usize) -> u32
 
 // The signs as a word, position 1 first.
 pub fn sign_word(reading: &[i32]) -> u32
-    ensures { λ r. ⌜ (r ≡ signWord (padded positions (now (reading .entry)))) × (r < words) ⌝ }
+    ensures { λ r. ⌜ (r ≡ signWord (whole positions (now (reading .entry)))) × (r < words) ⌝ }
 {
+    if reading.len() != POSITIONS {
+        return 0;
+    }
     let mut word: u32 = 0;
     let mut i: usize = 0;
     while i < POSITIONS {
@@ -52,8 +55,11 @@ fn zero_bit(reading: &[i32], i: usize) -> u32
 
 // The zeros as a word, position 1 first.
 pub fn zero_word(reading: &[i32]) -> u32
-    ensures { λ r. ⌜ (r ≡ zeroWord (padded positions (now (reading .entry)))) × (r < words) ⌝ }
+    ensures { λ r. ⌜ (r ≡ zeroWord (whole positions (now (reading .entry)))) × (r < words) ⌝ }
 {
+    if reading.len() != POSITIONS {
+        return 0;
+    }
     let mut word: u32 = 0;
     let mut i: usize = 0;
     while i < POSITIONS {
@@ -95,8 +101,11 @@ fn at_stake(error: u32, reading: &[i32], i: usize) -> u64
 
 // What an error costs.
 pub fn cost(error: u32, reading: &[i32]) -> u64
-    ensures { λ r. ⌜ (r ≡ rule.cost error (padded positions (now (reading .entry)))) × (r ≤ 51539607552) ⌝ }
+    ensures { λ r. ⌜ (r ≡ rule.cost error (whole positions (now (reading .entry)))) × (r ≤ 51539607552) ⌝ }
 {
+    if reading.len() != POSITIONS {
+        return 0;
+    }
     let mut sum: u64 = 0;
     let mut i: usize = 0;
     while i < POSITIONS {

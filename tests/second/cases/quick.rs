@@ -1,21 +1,26 @@
 //! The cases of the quick decoder.
 
-use super::{refusals, refused_readings, worked_readings};
+use super::{fillings, refusals, refused_readings, with_confidence, worked_readings};
 use crate::chance::Chance;
 use crate::code::{Code, COLUMNS, POSITIONS};
 use crate::line::Case;
 use crate::readings::{KINDS, QUICK_KINDS};
 
 const SEEDED_READINGS: usize = 20_000;
+const SEEDED_WITH_ZEROS: usize = 10_000;
 const FIXED_READINGS: usize = 1_200;
+const FIXED_WITH_ZEROS: usize = 600;
 
 pub fn seeded(code: &Code, chance: &mut Chance) -> Vec<Case> {
-    gathered(code, chance, SEEDED_READINGS)
+    let mut cases = gathered(code, chance, SEEDED_READINGS);
+    cases.extend(fillings::cases(code, chance, SEEDED_WITH_ZEROS));
+    cases
 }
 
 pub fn fixed(code: &Code, chance: &mut Chance) -> Vec<Case> {
     let mut cases = gathered(code, chance, FIXED_READINGS);
     cases.extend(refusals::cases(refusals::quick()));
+    cases.extend(fillings::cases(code, chance, FIXED_WITH_ZEROS));
     cases
 }
 
@@ -54,6 +59,12 @@ fn of_column_sizes(sizes: [i32; COLUMNS]) -> Vec<i32> {
 /// All six candidates tie.
 pub fn tied() -> Vec<i32> {
     of_column_sizes([1; COLUMNS])
+}
+
+/// Column 2 has a zero at its top, and turning it over costs what turning column 1 over does: the
+/// word of signs is tied. The other filling is nearer to the codeword that column 2 makes.
+pub fn tied_with_zero() -> Vec<i32> {
+    with_confidence(&of_column_sizes([3, 4, 4, 4, 4, 4]), 4, 0)
 }
 
 /// Six, two or no candidates tied for the smallest sum, and two tied for a sum above the smallest.

@@ -149,8 +149,31 @@ pub fn soft() -> Vec<Row> {
     rows
 }
 
+/// Clear readings with one zero, with as many as are filled and with one more; nothing but zeros; and
+/// a zero beside a tie.
+fn readings_with_zeros() -> [(u8, Vec<i32>); 5] {
+    let clear = |zeros| [vec![0; zeros], vec![1; POSITIONS - zeros]].concat();
+    [
+        (0, clear(1)),
+        (0, clear(4)),
+        (14, clear(5)),
+        (14, zeros()),
+        (14, quick::tied_with_zero()),
+    ]
+}
+
 pub fn quick() -> Vec<Row> {
-    of_readings(Case::Quick, 0, &quick::tied(), 6)
+    let mut rows = of_readings(Case::Quick, 0, &quick::tied(), 6);
+    for (number, reading) in readings_with_zeros() {
+        rows.push((number, Case::Quick(reading.clone())));
+        for place in [0, 11, 23] {
+            let forbidden = with_confidence(&reading, place, FORBIDDEN);
+            rows.push((2, Case::Quick(forbidden.clone())));
+            rows.extend([1, 23, 25].map(|length| (1, Case::Quick(of_length(&forbidden, length)))));
+        }
+        rows.extend([1, 23, 25, 48].map(|length| (1, Case::Quick(of_length(&reading, length)))));
+    }
+    rows
 }
 
 /// A tally with all counts at a number, and a table with the first one and the last there.

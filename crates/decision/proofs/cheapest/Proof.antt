@@ -16,7 +16,7 @@ use Rattle.signed.specs.Within.{Within}
 use Rattle.signed.proofs.Locals.{fits, lowest, reads}
 use Rattle.contest.specs.Kept.{Kept, seen, run}
 use Rattle.contest.proofs.KeptSpan.{kept-best}
-use Rattle.signs.specs.Signs.{padded}
+use Rattle.signs.specs.Signs.{whole}
 use Rattle.decision.specs.Decision.{merits}
 use Rattle.decision.proofs.cheapest.Statement.{statement}
 use Rattle.decision.proofs.cheapest.Tie as tie
@@ -27,7 +27,7 @@ merit-read w = reads (w .1) (lit< tt) ∙ w .0
 
 abbrev Inv-loop : tie.InvT-loop
 Inv-loop word slots reading kept₀ i₀ kept i =
-    (i ≤ 6) × Kept (run (merits word (padded 24 reading) slots) i) kept × ((k : ℕ) → k < i → Within 51539607552 (merits word (padded 24 reading) slots k))
+    (i ≤ 6) × Kept (run (merits word (whole 24 reading) slots) i) kept × ((k : ℕ) → k < i → Within 51539607552 (merits word (whole 24 reading) slots k))
 
 abbrev μ-loop : tie.MeasureT-loop
 μ-loop word slots reading kept₀ i₀ kept i = 6 - i
@@ -45,7 +45,7 @@ loop-holds : tie.Need-loop-holds Inv-loop μ-loop
 loop-holds c =
     let m = c .before .merit .ensures in
     let args = c .before .before .before .before .args in
-    let w : Within 51539607552 (merits (args .word) (padded 24 (now (args .reading))) (now (args .slots)) 0) = rw (m .0) at (m .1) in (
+    let w : Within 51539607552 (merits (args .word) (whole 24 (now (args .reading))) (now (args .slots)) 0) = rw (m .0) at (m .1) in (
       omega arith,
       subst (λ (v : ℤ). Kept (seen v 0 ∷ []) (c .first .result)) (merit-read m) (c .first .ensures),
       λ k h. let e : k ≡ 0 = omega arith in rw e w,
@@ -77,7 +77,7 @@ loop-again c =
     let m = c .before .merit2 .ensures in
     let l = c .before .before .before .before .loop in
     let args = c .before .before .before .before .before .before .before .before .before .args in
-    let f = merits (args .word) (padded 24 (now (args .reading))) (now (args .slots)) in
+    let f = merits (args .word) (whole 24 (now (args .reading))) (now (args .slots)) in
     let w : Within 51539607552 (f (l .i)) = rw (m .0) at (m .1) in (
       omega arith,
       subst (λ (n : ℕ). Kept (run f n) (c .take .result)) (sym (add-one (l .i)))
@@ -90,7 +90,7 @@ returns c =
     let l = c .before .loop in
     let e : l .i ≡ 6 = omega arith in
     let args = c .before .before .before .before .before .before .args in
-    let f = merits (args .word) (padded 24 (now (args .reading))) (now (args .slots)) in
+    let f = merits (args .word) (whole 24 (now (args .reading))) (now (args .slots)) in
     kept-best f 6 (omega arith) (λ k h. lowest (fits (l .inv .2 k (omega arith)) (lit< tt))) (subst (λ (n : ℕ). Kept (run f n) (l .kept)) e (l .inv .1))
 
 pub cheapest-spec : {M : Type 1} → statement M

@@ -6,7 +6,7 @@ use borrow.Author.Needs.{needs}
 use mir.Syntax.{w64}
 use mir.Val.{SFits}
 use Rattle.signed.proofs.Locals.{le-taken, le-left}
-use Rattle.signs.specs.Signs.{padded}
+use Rattle.signs.specs.Signs.{whole}
 use Rattle.decision.proofs.Choosing.{four-candidates, chosen-alone, chosen-shared}
 use Rattle.decision.proofs.chosen.Statement.{statement}
 use Rattle.decision.proofs.chosen.Tie as tie
@@ -31,7 +31,7 @@ returns c =
     let C = four-candidates (start .pre) refl (called .candidates .ensures) in
     let f : SFits w64 (kept .cheapest .result .best) = search needs in
     let g : SFits w64 (kept .cheapest .result .second) = search needs in
-    chosen-shared (padded 24 (now (start .args .reading))) C (kept .cheapest .ensures) (le-taken f g (c .if1 .taken))
+    chosen-shared (whole 24 (now (start .args .reading))) C (kept .cheapest .ensures) (le-taken f g (c .if1 .taken))
 
 cast-at : tie.Need-cast-at
 cast-at c = search needs
@@ -51,7 +51,7 @@ returns-2 c =
     let C = four-candidates (start .pre) refl (called .candidates .ensures) in
     let f : SFits w64 (kept .cheapest .result .best) = search needs in
     let g : SFits w64 (kept .cheapest .result .second) = search needs in
-    chosen-alone (padded 24 (now (start .args .reading))) C (kept .cheapest .ensures) (le-left f g (test .if1 .left))
+    chosen-alone (whole 24 (now (start .args .reading))) C (kept .cheapest .ensures) (le-left f g (test .if1 .left))
 
 pub chosen-spec : {M : Type 1} → statement M
 chosen-spec =

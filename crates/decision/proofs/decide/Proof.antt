@@ -1,18 +1,15 @@
 -- `decision::decide` meets its contract, by those of `hard::correct` and of `chosen`.
 -- Assumes nothing.
-use mathlib.Core.Path.{refl, sym, subst}
+use mathlib.Core.Path.{subst}
 use Prim.Native.Nat.{ℕ, _%_, _<_}
 use native.Mathlib.Nat.{mod-lt}
 use lib.Dec.{lit<}
-use denote.Ref.{now}
 use borrow.Author.Needs.{needs}
 use Rattle.code.specs.Code.{words}
-use Rattle.golay.specs.Answers.{accepted}
 use Rattle.hard.specs.Answers.{correctAnswer}
 use Rattle.hard.specs.Calls.{Corrects}
-use Rattle.signs.specs.Signs.{padded}
-use Rattle.decision.specs.Decision.{Follows, decisionAnswer}
 use Rattle.decision.proofs.Choosing.{refused-four}
+use Rattle.decision.proofs.Deciding.{corrected-decides, chosen-decides}
 use Rattle.decision.proofs.decide.Statement.{statement}
 use Rattle.decision.proofs.decide.Tie as tie
 
@@ -39,25 +36,16 @@ returns : tie.Need-returns
 returns c =
     let matched = c .before in
     let corrected = matched .before .before in
-    let word = corrected .before .args .word % words in
-    let xs = padded 24 (now (corrected .before .args .reading)) in
-    record {
-      correction = correctAnswer (corrected .correct .result);
-      corrects = corrected .correct .ensures;
-      follows = subst (λ a. Follows word xs (correctAnswer a) (accepted (matched .codeword .given .0 .0 .0))) (sym (matched .codeword .given .1)) refl;
-    }
+    corrected-decides
+    (subst (λ a. Corrects (corrected .before .args .word % words) (correctAnswer a)) (matched .codeword .given .1) (corrected .correct .ensures))
 
 returns-2 : tie.Need-returns-2
 returns-2 c =
     let told = c .before in
     let corrected = told .before .before in
-    let word = corrected .before .args .word % words in
-    let xs = padded 24 (now (corrected .before .args .reading)) in
-    record {
-      correction = correctAnswer (corrected .correct .result);
-      corrects = corrected .correct .ensures;
-      follows = subst (λ a. Follows word xs (correctAnswer a) (decisionAnswer (c .chosen .result))) (sym (told .enum-told .given .1)) (c .chosen .ensures);
-    }
+    chosen-decides
+    (subst (λ a. Corrects (corrected .before .args .word % words) (correctAnswer a)) (told .enum-told .given .1) (corrected .correct .ensures))
+    (c .chosen .ensures)
 
 pub decide-spec : {M : Type 1} → statement M
 decide-spec =

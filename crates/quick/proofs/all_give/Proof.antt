@@ -8,16 +8,16 @@ use native.Mathlib.Omega.{arith}
 use lib.Bits.{bitAnd, and-le-l}
 use borrow.Author.Needs.{needs}
 use borrow.Author.Tests.{not-true, not-false}
-use Rattle.signs.specs.Signs.{padded}
-use Rattle.signs.proofs.Padded.{padded-length}
-use Rattle.quick.specs.Gives.{Gives}
+use Rattle.signs.specs.Signs.{whole}
+use Rattle.signs.proofs.Whole.{whole-short}
+use Rattle.decision.specs.Decision.{Gives}
 use Rattle.quick.proofs.Settling.{never}
 use Rattle.quick.proofs.Trying.{Tried, tried-first, next-short, tried-next, tried-not, tried-all}
 use Rattle.quick.proofs.all_give.Statement.{statement}
 use Rattle.quick.proofs.all_give.Tie as tie
 
 abbrev Inv-loop : tie.InvT-loop
-Inv-loop codeword least zeros reading ones₀ ones = Tried codeword (padded 24 reading) ones
+Inv-loop codeword least zeros reading ones₀ ones = Tried codeword (whole 24 reading) ones
 
 abbrev μ-loop : tie.MeasureT-loop
 μ-loop codeword least zeros reading ones₀ ones = ones
@@ -31,18 +31,18 @@ sub-ones c = search needs
 add-gives : tie.Need-add-gives Inv-loop μ-loop
 add-gives c =
     let start = c .before .before in
-    omega (arith, next-short (start .pre .0) (start .pre .1) (c .before .loop .inv) (omega arith) (padded-length 24 (start .args .reading .now)))
+    omega (arith, next-short (start .pre .0) (start .pre .1) (c .before .loop .inv) (omega arith) (whole-short 24 (start .args .reading .now)))
 
 gives-requires : tie.Need-gives-requires Inv-loop μ-loop
 gives-requires c κs = search needs
 
 -- what the call says of the word that is tried
 tried : (c : tie.After-gives Inv-loop μ-loop) → let start = c .before .before .before in
-    Gives (start .args .codeword) (start .args .least + bitAnd (c .before .before .loop .ones - 1) (start .args .zeros)) (padded 24 (start .args .reading .now)) (c .gives .result)
+    Gives (start .args .codeword) (start .args .least + bitAnd (c .before .before .loop .ones - 1) (start .args .zeros)) (whole 24 (start .args .reading .now)) (c .gives .result)
 tried c =
     let start = c .before .before .before in
-    let xs = padded 24 (start .args .reading .now) in
-    let short = next-short (start .pre .0) (start .pre .1) (c .before .before .loop .inv) (omega arith) (padded-length 24 (start .args .reading .now)) in
+    let xs = whole 24 (start .args .reading .now) in
+    let short = next-short (start .pre .0) (start .pre .1) (c .before .before .loop .inv) (omega arith) (whole-short 24 (start .args .reading .now)) in
     subst (λ (w : ℕ). Gives (start .args .codeword) w xs (c .gives .result)) (mod-eq-of-lt short) (c .gives .ensures)
 
 returns : tie.Need-returns Inv-loop μ-loop

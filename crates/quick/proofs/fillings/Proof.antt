@@ -5,47 +5,49 @@ use mathlib.Core.List.{List}
 use Prim.Native.Nat.{ℕ, _+_, _^_, _≤_, _<_}
 use native.Mathlib.Nat.{mod-eq-of-lt}
 use native.Mathlib.Omega.{arith}
+use lib.Pow.{pow-mono}
 use lib.IntN.{ℤ}
 use denote.Ref.{now}
 use borrow.Author.Needs.{needs}
 use Rattle.code.specs.Code.{words}
 use Rattle.binary.specs.Words.{ones}
-use Rattle.signs.specs.Signs.{padded}
+use Rattle.signs.specs.Signs.{whole}
 use Rattle.signs.specs.Fillings.{zeros, zeroWord, Filling}
-use Rattle.signs.proofs.Padded.{padded-length}
+use Rattle.signs.proofs.Whole.{whole-short}
 use Rattle.signs.proofs.Zeros.{zeros-ones}
 use Rattle.decision.specs.Decision.{decisionAnswer, Decides}
-use Rattle.quick.specs.Gives.{AllGive}
+use Rattle.quick.specs.Quick.{AllGive}
 use Rattle.quick.proofs.Trying.{highest-filling}
 use Rattle.quick.proofs.Settling.{many-unsettled, tied-unsettled, all-settled, not-all-unsettled}
 use Rattle.quick.proofs.fillings.Statement.{statement}
 use Rattle.quick.proofs.fillings.Tie as tie
 
 -- the ones of the zeros' word, counted, are the zeros
-counted : (c : tie.After-ones) → c .ones .result ≡ zeros (padded 24 (now (c .before .before .args .reading)))
+counted : (c : tie.After-ones) → c .ones .result ≡ zeros (whole 24 (now (c .before .before .args .reading)))
 counted c =
     let reading = now (c .before .before .args .reading) in
-    c .ones .ensures ∙ ap (ones 32) (c .before .zero-word .ensures .0) ∙ zeros-ones 32 (padded 24 reading) (omega (arith, padded-length 24 reading))
+    c .ones .ensures ∙ ap (ones 32) (c .before .zero-word .ensures .0) ∙ zeros-ones 32 (whole 24 reading) (omega (arith, whole-short 24 reading))
 
-module _ (c : tie.After-decide) where
+module _ (c : tie.Else1) where
   abbrev xs : List ℤ
-  xs = padded 24 (now (c .before .before .before .before .before .args .reading))
+  xs = whole 24 (now (c .before .before .before .args .reading))
 
-  -- the word that is decided: the filling that has a 1 at each zero
+  -- the word that is decided first: the filling that has a 1 at each zero
   abbrev first : ℕ
-  first = c .before .sign-word .result + c .before .before .before .before .zero-word .result
+  first = c .before .before .before .args .least + c .before .before .zero-word .result
 
   filling : Filling xs first
-  filling = highest-filling (c .before .sign-word .ensures .0) (c .before .before .before .before .zero-word .ensures .0)
+  filling = highest-filling (c .before .before .before .pre) (c .before .before .zero-word .ensures .0)
 
-  decides : Decides first xs (decisionAnswer (c .decide .result))
-  decides =
-      let reading = now (c .before .before .before .before .before .args .reading) in
-      let short = subst (λ (n : ℕ). first < 2 ^ n) (padded-length 24 reading) (filling .short) in
-      subst (λ (w : ℕ). Decides w xs (decisionAnswer (c .decide .result))) (mod-eq-of-lt short) (c .decide .ensures)
+  short : first < 2 ^ 24
+  short = omega (arith, filling .short, pow-mono (whole-short 24 (now (c .before .before .before .args .reading))))
 
   few : zeros xs ≤ 4
-  few = omega (arith, counted (c .before .before .before))
+  few = omega (arith, counted (c .before))
+
+decides : (c : tie.After-decide) → Decides (first (c .before)) (xs (c .before)) (decisionAnswer (c .decide .result))
+decides c =
+    subst (λ (w : ℕ). Decides w (xs (c .before)) (decisionAnswer (c .decide .result))) (mod-eq-of-lt (short (c .before))) (c .decide .ensures)
 
 zero-word-requires : tie.Need-zero-word-requires
 zero-word-requires c κs = search needs
@@ -56,11 +58,8 @@ ones-requires c κs = search needs
 returns : tie.Need-returns
 returns c = many-unsettled (omega (arith, counted (c .before)))
 
-sign-word-requires : tie.Need-sign-word-requires
-sign-word-requires c κs = search needs
-
 add-decide : tie.Need-add-decide
-add-decide c = search needs
+add-decide c = omega (arith, short c)
 
 decide-requires : tie.Need-decide-requires
 decide-requires c κs = search needs
@@ -71,7 +70,11 @@ enum-known-codeword c = search needs
 all-give-requires : tie.Need-all-give-requires
 all-give-requires c κs =
     let decided = c .before .before .before in
-    (decided .before .sign-word .ensures .0, decided .before .before .before .before .zero-word .ensures .0, subst (λ d. Decides (first decided) (xs decided) (decisionAnswer d)) (c .before .codeword .given .1) (decides decided))
+    let test = decided .before in (
+      test .before .before .before .pre,
+      test .before .before .zero-word .ensures .0,
+      subst (λ d. Decides (first test) (xs test) (decisionAnswer d)) (c .before .codeword .given .1) (decides decided),
+    )
 
 enum-told : tie.Need-enum-told
 enum-told c = search needs
@@ -80,24 +83,24 @@ returns-2 : tie.Need-returns-2
 returns-2 c =
     let asked = c .before in
     let known = asked .before .before in
-    let decided = known .before .before in
-    let codeword = known .codeword .given .0 .0 .0 in
-    all-settled (few decided) (subst (λ b. AllGive codeword (xs decided) b) (c .if2 .taken) (asked .all-give .ensures))
+    let test = known .before .before .before in
+    all-settled (few test) (subst (λ b. AllGive (known .codeword .given .0 .0 .0) (xs test) b) (c .if2 .taken) (asked .all-give .ensures))
 
 returns-3 : tie.Need-returns-3
 returns-3 c =
     let asked = c .before in
     let known = asked .before .before in
     let decided = known .before .before in
-    let codeword = known .codeword .given .0 .0 .0 in
-    not-all-unsettled (filling decided)
-    (subst (λ d. Decides (first decided) (xs decided) (decisionAnswer d)) (known .codeword .given .1) (decides decided))
-    (subst (λ b. AllGive codeword (xs decided) b) (c .if2 .left) (asked .all-give .ensures))
+    let test = decided .before in
+    not-all-unsettled (filling test)
+    (subst (λ d. Decides (first test) (xs test) (decisionAnswer d)) (known .codeword .given .1) (decides decided))
+    (subst (λ b. AllGive (known .codeword .given .0 .0 .0) (xs test) b) (c .if2 .left) (asked .all-give .ensures))
 
 returns-4 : tie.Need-returns-4
 returns-4 c =
     let decided = c .before .before in
-    tied-unsettled (filling decided) (subst (λ d. Decides (first decided) (xs decided) (decisionAnswer d)) (c .enum-told .given .1) (decides decided))
+    let test = decided .before in
+    tied-unsettled (filling test) (subst (λ d. Decides (first test) (xs test) (decisionAnswer d)) (c .enum-told .given .1) (decides decided))
 
 pub fillings-spec : {M : Type 1} → statement M
 fillings-spec =
@@ -106,7 +109,6 @@ fillings-spec =
     zero-word-requires
     ones-requires
     returns
-    sign-word-requires
     add-decide
     decide-requires
     enum-known-codeword
