@@ -28,7 +28,7 @@ pub const CLASSES: u32 = 128;
 const CLASS_SIZE: usize = 32;
 const WORD_BYTES: usize = 3;
 const SLOTS: usize = 6;
-/// Of more zeros no filling is tried (9.7).
+/// Of more zeros no filling is tried (9.8).
 const MOST_ZEROS: usize = 4;
 
 /// A reading that passed the refusals 1 and 2; 64 bits, so that no sum or negation can overflow.

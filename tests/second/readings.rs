@@ -140,7 +140,7 @@ fn four_wrong_of_sizes(chance: &mut Chance, code: &Code, least: i64, most: i64) 
     speaking_for(word, &sizes)
 }
 
-/// Sizes from 0: mostly there are more zeros than are filled (9.7).
+/// Sizes from 0: mostly there are more zeros than are filled (9.8).
 fn four_wrong(chance: &mut Chance, code: &Code) -> Vec<i32> {
     four_wrong_of_sizes(chance, code, 0, 3)
 }

@@ -1,6 +1,7 @@
 -- The rule decides: any two answers that it allows for a word are equal, and so are two decisions that its promise allows.
 -- Assumes nothing.
 use mathlib.Core.Path.{_≡_, refl, sym, ap, _∙_}
+use mathlib.Core.Bool.{Bool, true, false}
 use mathlib.Core.List.{List}
 use Prim.Native.Nat.{ℕ}
 use native.Mathlib.Omega.{arith}
@@ -13,7 +14,7 @@ use Rattle.hard.proofs.Decided.{correct-once}
 use Rattle.hard.proofs.Meaning.{no-answer}
 use Rattle.decision.specs.declared.kinds.Decision.{Decision}
 use Rattle.decision.specs.declared.kinds.Decision.the-variants as decision
-use Rattle.decision.specs.Decision.{decisionAnswer, Cheapest, TwoCheapest, Chosen, alone, shared, Follows, Decides}
+use Rattle.decision.specs.Decision.{decisionAnswer, Cheapest, TwoCheapest, Chosen, alone, shared, Follows, Decides, Gives}
 
 module _ {word : ℕ} {xs : List ℤ} where
   -- two that are cheapest alone are one, and none is beside two that share it
@@ -69,6 +70,12 @@ back : (r : Decision) → again (decisionAnswer r) ≡ r
 unfolding again
 back (decision.For c) = refl
 back decision.Tied = refl
+
+pub gives-once : {c word : ℕ} {xs : List ℤ} (a b : Bool) → Gives c word xs a → Gives c word xs b → a ≡ b
+gives-once true true p q = refl
+gives-once true false p q = absurd (q .gives-not refl (p .gives refl))
+gives-once false true p q = absurd (p .gives-not refl (q .gives refl))
+gives-once false false p q = refl
 
 pub decide-decided : (word : ℕ) (xs : List ℤ) (x y : Decision) → Decides word xs (decisionAnswer x) → Decides word xs (decisionAnswer y) → x ≡ y
 decide-decided word xs x y p q = said-once decisionAnswer again back x y (decides-one p q) refl

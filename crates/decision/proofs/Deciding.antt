@@ -1,6 +1,6 @@
 -- What correction and the choice among candidates say of a word, as the rule says it; and what a comparison with a codeword says then.
 -- Assumes nothing.
-use mathlib.Core.Path.{_≡_, refl, sym, subst}
+use mathlib.Core.Path.{_≡_, refl, subst}
 use mathlib.Core.Bool.{true, false}
 use mathlib.Core.List.{List}
 use Prim.Native.Nat.{ℕ}

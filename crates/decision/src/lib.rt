@@ -69,8 +69,8 @@ pub fn decide(word: u32, reading: &[i32]) -> Decision
     }
 }
 
-// Whether a word is decided for a codeword. It is not said by `decide`, so that the choice among candidates, which is long, stands for both of them
-// once, and what most words need stays short.
+// Whether a word is decided for a codeword. Correction comes first here too, in place of `decide`: so `chosen`, which is long, has two callers,
+// and the compiler puts it into neither.
 pub fn gives(codeword: u32, word: u32, reading: &[i32]) -> bool
     ensures { λ r. ⌜ Gives codeword (word % words) (whole positions (now (reading .entry))) r ⌝ }
 {

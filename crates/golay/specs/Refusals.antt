@@ -15,7 +15,7 @@ number MessageAbove = 3
 number WordAbove = 4
 -- a word of 24 bits that is to be read, or to be written as bytes, is no codeword
 number NotCodeword = 5
--- no one word is best (7.4, 9.6)
+-- no one word is best (7.4, 9.7)
 number Tied = 6
 -- a word to be corrected is at distance 4 from the code
 number DistanceFour = 7
@@ -29,7 +29,7 @@ number CutShort = 10
 number ClassAbove = 11
 -- to count a reading would take a count or the total of reserves past its end (18.3)
 number CountFull = 12
--- a reading has zeros, and they leave the quick decoder's answer open (9.7)
+-- a reading has zeros, and they leave the quick decoder's answer open (9.8)
 number Unsettled = 14
 -- a column number is not 1 to 6
 number NoColumn = 18

@@ -1,5 +1,5 @@
 -- What the quick decoder makes of zeros, for every answer that its promise allows: no answer depends on how zeros are filled, zeros alone are never
--- answered, 6 is given without zeros only; and without zeros the rule is source document 003's to the letter.
+-- answered, 6 is given without zeros only; and without zeros the rule is document 01's to the letter.
 -- Assumes nothing.
 use mathlib.Core.Path.{_≡_, refl, sym, ap, subst}
 use mathlib.Core.Bool.{Bool, true, false, not}
@@ -25,7 +25,7 @@ use Rattle.quick.specs.Quick.{Settles, settled, unsettled, Answers, Quic
 use Rattle.quick.proofs.Rules.{quick-settles, quick-once}
 use Rattle.quick.proofs.Settling.{many-unsettled}
 
--- Rule 9.6: for a reading without zeros the rule is that for its word of signs
+-- Rule 9.7: for a reading without zeros the rule is that for its word of signs
 pub without-zeros : (xs : List ℤ) → zeros xs ≡ 0 → QuickRule xs ≡ SignsRule xs
 unfolding QuickRule SignsRule
 without-zeros xs z = ap (λ (n : ℕ). Refuse WrongLength (wrongLength positions xs) (Refuse MostNegative (mostNegative xs) (Answers n xs))) z
@@ -56,7 +56,7 @@ way xs a r = long (eqb (length xs) 24) refl r
 
 -- ---- what that says
 
--- Rule 9.7: whatever is answered, every filling is decided for it
+-- Rule 9.8: whatever is answered, every filling is decided for it
 pub every-filling : (xs : List ℤ) (c : ℕ) → QuickRule xs (accepted c) → (word : ℕ) → Filling xs word → Decides word xs (accepted c)
 every-filling xs c r word F = go (way xs (accepted c) r)
   where
@@ -66,7 +66,7 @@ every-filling xs c r word F = go (way xs (accepted c) r)
     go (by-signs l z d) = subst (λ (w : ℕ). Decides w xs (accepted c)) (sym (filling-alone xs z word F)) d
     go (by-fillings l h (settled S)) = S .each word F
 
--- Rule 9.7: a reading of zeros alone, however long, is not answered
+-- Rule 9.8: a reading of zeros alone, however long, is not answered
 pub zeros-not-answered : (xs : List ℤ) → zeros xs ≡ length xs → (c : ℕ) → QuickRule xs (accepted c) → ⊥
 zeros-not-answered xs z c r = go (way xs (accepted c) r)
   where
@@ -76,7 +76,7 @@ zeros-not-answered xs z c r = go (way xs (accepted c) r)
     go (by-signs l n d) = omega (arith, z, l, n)
     go (by-fillings l h (settled S)) = omega (arith, z, l, S .few)
 
--- Rule 9.6: 6 is given without zeros only
+-- Rule 9.7: 6 is given without zeros only
 pub six-without-zeros : (xs : List ℤ) → QuickRule xs (refused 6) → zeros xs ≡ 0
 six-without-zeros xs r = go (way xs (refused 6) r)
   where

@@ -1,4 +1,4 @@
--- The quick decoder is another than the soft one (9.8): one strong confidence against 23 weak ones, which the soft decoder refuses as tied,
+-- The quick decoder is another than the soft one (9.6): one strong confidence against 23 weak ones, which the soft decoder refuses as tied,
 -- it answers with 0, since the signs lie one position from that codeword.
 -- Assumes nothing.
 use mathlib.Core.Path.{_≡_, refl, sym, ap}

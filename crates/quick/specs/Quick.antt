@@ -1,4 +1,4 @@
--- Rules 9.1, 9.6 and 9.7: the quick decoder: what the fillings of a reading are decided for.
+-- Rules 9.1, 9.7 and 9.8: the quick decoder: what the fillings of a reading are decided for.
 use mathlib.Core.Path.{_≡_}
 use mathlib.Core.Bool.{Bool, true, false}
 use mathlib.Core.List.{List}
@@ -21,17 +21,17 @@ abbrev pub quickAnswer : QuickAnswer → Answer ℕ
 quickAnswer (quick.Accepted codeword) = accepted (codeword .0)
 quickAnswer (quick.Refused reason) = refused (number reason)
 
--- Rule 9.7: there are four zeros or fewer, and every filling is decided for c
+-- Rule 9.8: there are four zeros or fewer, and every filling is decided for c
 pub record Settled (xs : List ℤ) (c : ℕ) : Type 0 where
   pub few : zeros xs ≤ 4
   pub each : (word : ℕ) → Filling xs word → Decides word xs (accepted c)
 
--- Rule 9.7: the answer to a reading with zeros
+-- Rule 9.8: the answer to a reading with zeros
 pub data Settles (xs : List ℤ) : Answer ℕ → Type 0 where
   settled : {c : ℕ} → Settled xs c → Settles xs (accepted c)
   unsettled : ((c : ℕ) → Settled xs c → ⊥) → Settles xs (refused (number Unsettled))
 
--- Rules 9.6 and 9.7: the answer to a valid reading, by how many zeros it has: none, so that its word of signs decides, or some
+-- Rules 9.7 and 9.8: the answer to a valid reading, by how many zeros it has: none, so that its word of signs decides, or some
 abbrev pub Answers : ℕ → List ℤ → Answer ℕ → Type 0
 Answers zero xs = Decides (signWord xs) xs
 Answers (suc z) xs = Settles xs
@@ -40,8 +40,8 @@ Answers (suc z) xs = Settles xs
 unfoldable pub QuickRule : List ℤ → Answer ℕ → Type 0
 QuickRule xs = Refuse WrongLength (wrongLength positions xs) (Refuse MostNegative (mostNegative xs) (Answers (zeros xs) xs))
 
--- Source document 003's rule: 1, then 2, or what the word of signs is decided for, 6 included. It is the quick decoder's for a reading without
--- zeros.
+-- Document 01's rule, for every reading: 1, then 2, or what the word of signs is decided for, 6 included. It is the quick decoder's where there
+-- are no zeros.
 unfoldable pub SignsRule : List ℤ → Answer ℕ → Type 0
 SignsRule xs = Refuse WrongLength (wrongLength positions xs) (Refuse MostNegative (mostNegative xs) (Decides (signWord xs) xs))
 

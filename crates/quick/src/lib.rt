@@ -1,4 +1,4 @@
-// The quick decoder, there to be compared with: what the fillings of a reading are decided for. The soft decoder may answer otherwise (rule 9.8).
+// The quick decoder, there to be compared with: what the fillings of a reading are decided for. The soft decoder may answer otherwise (rule 9.6).
 ghost use mathlib.Core.Path.{_≡_};
 ghost use Prim.Native.Nat.{_+_, _%_};
 ghost use Rattle.code.specs.Code.{positions, words};
@@ -25,8 +25,8 @@ fn alone(word: u32, reading: &[i32]) -> QuickAnswer
     }
 }
 
-// Whether every filling is decided for a codeword, given that the one is that has a 1 at each zero. The others are tried in descending order:
-// one less, of which the bits at the zeros are kept, is the next lower choice of the zeros.
+// Whether every filling is decided for a codeword, given that the highest is, which has a 1 at each zero. The others follow in descending order:
+// one less, of which the bits at the zeros are kept, is the next lower choice of zeros.
 fn all_give(codeword: u32, least: u32, zeros: u32, reading: &[i32]) -> bool
     requires { ⌜ (least ≡ signWord (whole positions (now reading))) × (zeros ≡ zeroWord (whole positions (now reading))) × Decides (least + zeros) (whole positions (now reading)) (accepted codeword) ⌝ }
     ensures { λ r. ⌜ AllGive codeword (whole positions (now (reading .entry))) r ⌝ }
@@ -62,7 +62,7 @@ fn fillings(least: u32, reading: &[i32]) -> QuickAnswer
     }
 }
 
-// The quick decoder's codeword (rules 9.6 and 9.7). Refuses 1, then 2, then 6 for a reading without zeros and 14 for one with zeros.
+// The quick decoder's codeword (rules 9.7 and 9.8). Refuses 1, then 2, then 6 for a reading without zeros and 14 for one with zeros.
 pub fn quick(reading: &[i32]) -> QuickAnswer
     ensures { λ r. ⌜ QuickRule (now (reading .entry)) (quickAnswer r) ⌝ }
 {

@@ -3,7 +3,7 @@ use mathlib.Core.Bool.{Bool, true, false}
 use Prim.Native.Nat.{ℕ, suc}
 use lib.IntN.{ℤ, pos, negsuc, negℤ}
 
--- 1 exactly for a negative number: the bit that a confidence (9.2) or a sum (8.3) speaks for, a zero's being 0
+-- 1 exactly for a negative number: the bit that a confidence (9.2) or a sum (8.3) speaks for; a zero, which speaks for neither, has 0
 abbrev pub sign : ℤ → Bool
 sign (pos n) = false
 sign (negsuc n) = true

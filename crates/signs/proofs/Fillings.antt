@@ -9,11 +9,10 @@ use Prim.Native.Nat.{ℕ, zero, suc, _+_, _-_, _*_, _/_, _%_, _^_, _≤_, _<_}
 use native.Mathlib.Nat.{one-mul, zero-mul, pow-suc, mod-lt, mod-eq-of-lt}
 use native.Mathlib.Numerals.{one-add}
 use native.Mathlib.Omega.{arith}
-use native.Mathlib.Decide.{ℕ-discrete, decLt}
+use native.Mathlib.Decide.{decLt}
 use lib.IntN.{ℤ, pos}
 use lib.ListN.{length, getD}
-use lib.Pow.{pow-pos, split, high, low, field, mod-mod-pow, shr-lt}
-use lib.Bits.{bitAnd, and-block, and-comm, and-mask, and-zero-l, and-self}
+use lib.Pow.{pow-pos, split, high, low, field, mod-mod-pow}
 use Rattle.signed.specs.Sign.{sign}
 use Rattle.contest.specs.Words.{one}
 use Rattle.binary.proofs.Xor.{two-cases}

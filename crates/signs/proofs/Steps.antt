@@ -11,7 +11,7 @@ use native.Mathlib.Decide.{decLt}
 use lib.IntN.{ℤ}
 use lib.ListN.{length}
 use lib.Pow.{pow-pos}
-use lib.Bits.{bitAnd, and-block, and-comm, and-mask, and-zero-l, and-le-l}
+use lib.Bits.{bitAnd, and-block, and-comm, and-mask, and-zero-l}
 use Rattle.contest.specs.Words.{one}
 use Rattle.signs.specs.Signs.{marked}
 use Rattle.signs.specs.Fillings.{isZero, zeroWord}

@@ -14,7 +14,7 @@ use Rattle.binary.proofs.Ones.{ones-zero}
 use Rattle.binary.proofs.Places.{ones-top}
 use Rattle.contest.specs.Words.{one}
 use Rattle.signs.specs.Signs.{marked}
-use Rattle.signs.specs.Fillings.{isZero, zeros, zeroWord}
+use Rattle.signs.specs.Fillings.{isZero, zeros, zeroWord, Clear}
 
 pub zero-is : (x : ℤ) → isZero x ≡ true → x ≡ pos 0
 zero-is (pos zero) e = refl
@@ -39,6 +39,13 @@ pub no-zero : (xs : List ℤ) → ((k : ℕ) → k < length xs → getD xs k (po
 unfolding zeros
 no-zero [] n = refl
 no-zero (x ∷ xs) n = omega (arith, ap one (not-zero x (n 0 (omega arith))), no-zero xs (λ k h. n (suc k) (omega arith)))
+
+-- two allowed answers of the test for both are equal
+pub clear-once : {xs : List ℤ} (a b : Bool) → Clear xs a → Clear xs b → a ≡ b
+clear-once true true p q = refl
+clear-once true false p q = absurd (omega (arith, p .none refl, q .some refl (p .valid refl)))
+clear-once false true p q = absurd (omega (arith, q .none refl, p .some refl (q .valid refl)))
+clear-once false false p q = refl
 
 mark-le : (b : Bool) (p : ℕ) → one b * p ≤ p
 mark-le true p = omega (arith, one-mul p)

@@ -18,7 +18,7 @@ fn fillings_have_either_bit_at_zeros() {
     assert_eq!(fillings(&reading), [0x400000, 0x400001, 0xC00000, 0xC00001]);
 }
 
-/// Rule 9.7, by hand. The candidates of 0xF00000 each turn one column over; 0x700000 and 0xF80000 are
+/// Rule 9.8, by hand. The candidates of 0xF00000 each turn one column over; 0x700000 and 0xF80000 are
 /// corrected to 0 and to 0xFF0000.
 #[test]
 fn worked_zeros() {

@@ -1,6 +1,6 @@
 -- `quick::fillings` meets its contract.
 -- Assumes nothing.
-use mathlib.Core.Path.{_≡_, ap, sym, _∙_, subst}
+use mathlib.Core.Path.{_≡_, ap, _∙_, subst}
 use mathlib.Core.List.{List}
 use Prim.Native.Nat.{ℕ, _+_, _^_, _≤_, _<_}
 use native.Mathlib.Nat.{mod-eq-of-lt}
@@ -9,10 +9,9 @@ use lib.Pow.{pow-mono}
 use lib.IntN.{ℤ}
 use denote.Ref.{now}
 use borrow.Author.Needs.{needs}
-use Rattle.code.specs.Code.{words}
 use Rattle.binary.specs.Words.{ones}
 use Rattle.signs.specs.Signs.{whole}
-use Rattle.signs.specs.Fillings.{zeros, zeroWord, Filling}
+use Rattle.signs.specs.Fillings.{zeros, Filling}
 use Rattle.signs.proofs.Whole.{whole-short}
 use Rattle.signs.proofs.Zeros.{zeros-ones}
 use Rattle.decision.specs.Decision.{decisionAnswer, Decides}

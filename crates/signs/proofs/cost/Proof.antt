@@ -1,7 +1,7 @@
 -- `signs::cost` meets its contract. The invariant: the sum so far and the cost of what is left are the whole.
 -- Assumes nothing.
 use mathlib.Core.Path.{_≡_, ap, sym, _∙_}
-use Prim.Native.Nat.{ℕ, _+_, _-_, _*_, _/_, _%_, _^_, _≤_, _<_}
+use Prim.Native.Nat.{ℕ, _+_, _-_, _*_, _/_, _%_, _^_, _≤_}
 use native.Mathlib.Omega.{arith}
 use lib.IntN.{natAbs, pos}
 use lib.ListN.{length, drop, getD}

@@ -6,8 +6,6 @@ use lib.IntN.{ℤ, pos}
 use lib.ListN.{getD}
 use denote.Ref.{now}
 use borrow.Author.Needs.{needs}
-use mir.Syntax.{w64}
-use mir.Val.{SFits}
 use mir.Facts.{sfits-lit}
 use Rattle.signed.proofs.Locals.{fits, eq-taken, eq-left}
 use Rattle.contest.specs.Words.{one}
