@@ -92,7 +92,7 @@ uint8_t garthumor_soft(const int32_t *reading, size_t length, uint32_t *message,
 /* For comparison: the signs as a word, corrected, or the candidate that goes against the least
  * confidence (9.3 to 9.5). A zero has no sign: up to four are filled with bits in every way, and each
  * filling has to give the same codeword (9.8). It may give another codeword than soft does. Refuses 1,
- * 2, 6, 14: 6 only without zeros, 14 only with them, and always with five or more. */
+ * 2, 6, 14: 6 only without zeros, 14 only with them. Five zeros or more are never answered. */
 uint8_t garthumor_quick(const int32_t *reading, size_t length, uint32_t *codeword);
 
 /* The figure of a class (8.2). Refuses 1, 2, 11. */

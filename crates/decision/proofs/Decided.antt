@@ -60,6 +60,18 @@ decided-same p q = same (decides-one p q)
 pub tied-alone : {word : ℕ} {xs : List ℤ} {c : ℕ} → Decides word xs (refused 6) → Decides word xs (accepted c) → ⊥
 tied-alone p q = no-answer (decides-one q p)
 
+-- a word that is not decided for a codeword has 6, and no other number
+pub decides-six : {word : ℕ} {xs : List ℤ} {n : ℕ} → Decides word xs (refused n) → n ≡ 6
+decides-six {word} {xs} {n} p = go (p .correction) (p .follows)
+  where
+    chosen : (a : Answer ℕ) → Chosen word xs a → a ≡ refused n → n ≡ 6
+    chosen a (alone c) e = absurd (no-answer e)
+    chosen a (shared t) e = cc
+
+    go : (c : Answer Correction) → Follows word xs c (refused n) → n ≡ 6
+    go (accepted c) f = absurd (no-answer (sym f))
+    go (refused m) f = chosen (refused n) f refl
+
 -- ---- of the call's own answers, which are made again from what they stand for
 
 again : Answer ℕ → Decision

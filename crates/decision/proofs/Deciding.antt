@@ -1,10 +1,9 @@
 -- What correction and the choice among candidates say of a word, as the rule says it; and what a comparison with a codeword says then.
 -- Assumes nothing.
-use mathlib.Core.Path.{_≡_, refl, subst}
-use mathlib.Core.Bool.{true, false}
+use mathlib.Core.Path.{refl, subst}
+use mathlib.Core.Bool.{false, false≢true}
 use mathlib.Core.List.{List}
 use Prim.Native.Nat.{ℕ}
-use native.Mathlib.Omega.{arith}
 use lib.Dec.{eqb}
 use lib.IntN.{ℤ}
 use borrow.Author.Tests.{eqb-true, eqb-false}
@@ -28,7 +27,4 @@ module _ {word : ℕ} {xs : List ℤ} where
   }
 
   pub gives-tied : {c : ℕ} → Decides word xs (refused 6) → Gives c word xs false
-  gives-tied p = record { gives = λ e. absurd (never e); gives-not = λ e q. tied-alone p q }
-    where
-      never : false ≡ true → ⊥
-      never e = let z : _≡_ {A = ℕ} 0 1 = cc in omega arith
+  gives-tied p = record { gives = λ e. absurd (false≢true e); gives-not = λ e q. tied-alone p q }

@@ -1,4 +1,4 @@
--- Rules 9.3 to 9.5: what a word of signs is decided for by a reading, after source document 003, over hard correction.
+-- Rules 9.3 to 9.5: what a word is decided for by a reading, after source document 003, over hard correction.
 use mathlib.Core.Path.{_≡_}
 use mathlib.Core.Logic.{_≢_}
 use mathlib.Core.Bool.{Bool, true, false}
@@ -17,7 +17,7 @@ use Rattle.signs.specs.Signs.{cost}
 use Rattle.decision.specs.declared.kinds.Decision.{Decision}
 use Rattle.decision.specs.declared.kinds.Decision.the-variants as decision
 
--- Rules 9.5 and 15.5: a codeword, or the number for a tied word
+-- Rules 9.7 and 15.5: a codeword, or the number for a tied word
 abbrev pub decisionAnswer : Decision → Answer ℕ
 decisionAnswer (decision.For codeword) = accepted (codeword .0)
 decisionAnswer decision.Tied = refused (number Tied)

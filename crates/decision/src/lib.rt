@@ -1,4 +1,4 @@
-// Source document 003's rule for one word of signs: corrected; at distance four the candidate that costs least by the reading.
+// Source document 003's rule for one word: corrected; at distance four the candidate that costs least by the reading.
 ghost use mathlib.Core.Path.{_≡_};
 ghost use Prim.Native.Nat.{_%_, _<_};
 ghost use lib.IntN.{pos, negℤ};

@@ -1,5 +1,6 @@
--- What the quick decoder makes of zeros, for every answer that its promise allows: no answer depends on how zeros are filled, zeros alone are never
--- answered, 6 is given without zeros only; and without zeros the rule is document 01's to the letter.
+-- A decoder that takes a zero for bit 0 gives a dead input, 24 zeros, speed 0. What this one makes of zeros, for every answer that its promise
+-- allows: no answer depends on how zeros are filled, zeros alone are never answered, 6 is given without zeros only and 14 with zeros only; and
+-- without zeros the rule is document 01's to the letter.
 -- Assumes nothing.
 use mathlib.Core.Path.{_≡_, refl, sym, ap, subst}
 use mathlib.Core.Bool.{Bool, true, false, not}
@@ -21,6 +22,7 @@ use Rattle.signs.specs.Signs.{signWord}
 use Rattle.signs.specs.Fillings.{zeros, Filling}
 use Rattle.signs.proofs.Fillings.{filling-alone}
 use Rattle.decision.specs.Decision.{Decides}
+use Rattle.decision.proofs.Decided.{decides-six}
 use Rattle.quick.specs.Quick.{Settles, settled, unsettled, Answers, QuickRule, SignsRule}
 use Rattle.quick.proofs.Rules.{quick-settles, quick-once}
 use Rattle.quick.proofs.Settling.{many-unsettled}
@@ -76,25 +78,41 @@ zeros-not-answered xs z c r = go (way xs (accepted c) r)
     go (by-signs l n d) = omega (arith, z, l, n)
     go (by-fillings l h (settled S)) = omega (arith, z, l, S .few)
 
+-- two refusals that are equal have one number
+number-same : {m n : ℕ} → _≡_ {A = Answer ℕ} (refused m) (refused n) → m ≡ n
+number-same e = cc
+
 -- Rule 9.7: 6 is given without zeros only
 pub six-without-zeros : (xs : List ℤ) → QuickRule xs (refused 6) → zeros xs ≡ 0
 six-without-zeros xs r = go (way xs (refused 6) r)
   where
-    other : {m n : ℕ} → _≡_ {A = Answer ℕ} (refused m) (refused n) → m ≡ n
-    other e = cc
-
     never : (a : Answer ℕ) → Settles xs a → a ≡ refused 6 → ⊥
     never a (settled S) e = no-answer e
-    never a (unsettled n) e = omega (arith, other e)
+    never a (unsettled n) e = omega (arith, number-same e)
 
     go : Way xs (refused 6) → zeros xs ≡ 0
-    go (length-refused e) = absurd (omega (arith, other e))
-    go (negative-refused e) = absurd (omega (arith, other e))
+    go (length-refused e) = absurd (omega (arith, number-same e))
+    go (negative-refused e) = absurd (omega (arith, number-same e))
     go (by-signs l z d) = z
     go (by-fillings l h s) = absurd (never (refused 6) s refl)
+
+-- Rule 9.8: 14 is given with zeros only
+pub fourteen-with-zeros : (xs : List ℤ) → QuickRule xs (refused 14) → 0 < zeros xs
+fourteen-with-zeros xs r = go (way xs (refused 14) r)
+  where
+    go : Way xs (refused 14) → 0 < zeros xs
+    go (length-refused e) = absurd (omega (arith, number-same e))
+    go (negative-refused e) = absurd (omega (arith, number-same e))
+    go (by-signs l z d) = absurd (omega (arith, decides-six d))
+    go (by-fillings l h s) = h
+
+-- Rule 9.8: and to every valid reading with five zeros or more
+pub many-zeros-unsettled :
+    (xs : List ℤ) → length xs ≡ 24 → mostNegative xs ≡ false → 4 < zeros xs → (a : Answer ℕ) → QuickRule xs a → a ≡ refused 14
+many-zeros-unsettled xs l m h a r =
+    quick-once xs a (refused 14) r (quick-settles xs l m (refused 14) (omega arith) (many-unsettled h))
 
 -- Rule 16.6: 24 zeros
 pub all-zeros-unsettled : (a : Answer ℕ) → QuickRule allZeros a → a ≡ refused 14
 unfolding zeros
-all-zeros-unsettled a r =
-    quick-once allZeros a (refused 14) r (quick-settles allZeros refl refl (refused 14) (omega arith) (many-unsettled (omega arith)))
+all-zeros-unsettled = many-zeros-unsettled allZeros refl refl (omega arith)

@@ -10,10 +10,7 @@ use Rattle.golay.specs.Answers.{accepted, refused}
 use Rattle.signs.specs.Fillings.{zeros, Filling}
 use Rattle.decision.specs.Decision.{Decides}
 use Rattle.decision.proofs.Decided.{decided-same, tied-alone}
-use Rattle.quick.specs.Quick.{Settles, settled, unsettled, AllGive}
-
-pub never : true ≡ false → ⊥
-never e = let z : _≡_ {A = ℕ} 0 1 = cc in omega arith
+use Rattle.quick.specs.Quick.{Settled, Settles, settled, unsettled, AllGive}
 
 module _ {xs : List ℤ} where
   pub many-unsettled : 4 < zeros xs → Settles xs (refused 14)
@@ -26,4 +23,9 @@ module _ {xs : List ℤ} where
   all-settled h A = settled (record { few = h; each = A .all refl })
 
   pub not-all-unsettled : {c word : ℕ} → Filling xs word → Decides word xs (accepted c) → AllGive c xs false → Settles xs (refused 14)
-  not-all-unsettled {c} {word} F p A = unsettled (λ d S. A .not-all refl (λ w G. subst (λ (k : ℕ). Decides w xs (accepted k)) (decided-same (S .each word F) p) (S .each w G)))
+  not-all-unsettled {c} {word} F p A = unsettled none
+    where
+      none : (d : ℕ) → Settled xs d → ⊥
+      none d S =
+          let e = decided-same (S .each word F) p in
+          A .not-all refl (λ w G. subst (λ (k : ℕ). Decides w xs (accepted k)) e (S .each w G))

@@ -2,7 +2,7 @@
 use mathlib.Core.Path.{_≡_}
 use mathlib.Core.Bool.{Bool, true, false}
 use mathlib.Core.List.{List}
-use Prim.Native.Nat.{ℕ, zero, suc, _≤_}
+use Prim.Native.Nat.{ℕ, zero, suc, _+_, _≤_}
 use lib.IntN.{ℤ}
 use Rattle.code.specs.Code.{positions}
 use Rattle.golay.specs.declared.kinds.Refusal.the-variants.{WrongLength, MostNegative, Unsettled}
@@ -11,7 +11,7 @@ use Rattle.golay.specs.Answers.{Answer, accepted, refused, Refuse}
 use Rattle.golay.specs.Calls.{wrongLength}
 use Rattle.reading.specs.Checks.{mostNegative}
 use Rattle.signs.specs.Signs.{signWord}
-use Rattle.signs.specs.Fillings.{zeros, Filling}
+use Rattle.signs.specs.Fillings.{zeros, zeroWord, Filling}
 use Rattle.decision.specs.Decision.{Decides}
 use Rattle.quick.specs.declared.kinds.QuickAnswer.{QuickAnswer}
 use Rattle.quick.specs.declared.kinds.QuickAnswer.the-variants as quick
@@ -44,6 +44,12 @@ QuickRule xs = Refuse WrongLength (wrongLength positions xs) (Refuse MostNegativ
 -- are no zeros.
 unfoldable pub SignsRule : List ℤ → Answer ℕ → Type 0
 SignsRule xs = Refuse WrongLength (wrongLength positions xs) (Refuse MostNegative (mostNegative xs) (Decides (signWord xs) xs))
+
+-- the least filling, the places of the zeros, and that the filling with a 1 at each of them is decided for c
+pub record Highest (c least places : ℕ) (xs : List ℤ) : Type 0 where
+  pub signs : least ≡ signWord xs
+  pub zeros : places ≡ zeroWord xs
+  pub decided : Decides (least + places) xs (accepted c)
 
 -- whether every filling is decided for c
 pub record AllGive (c : ℕ) (xs : List ℤ) (r : Bool) : Type 0 where

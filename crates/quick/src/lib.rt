@@ -1,12 +1,10 @@
 // The quick decoder, there to be compared with: what the fillings of a reading are decided for. The soft decoder may answer otherwise (rule 9.6).
 ghost use mathlib.Core.Path.{_≡_};
-ghost use Prim.Native.Nat.{_+_, _%_};
+ghost use Prim.Native.Nat.{_%_};
 ghost use Rattle.code.specs.Code.{positions, words};
-ghost use Rattle.golay.specs.Answers.{accepted};
 ghost use Rattle.signs.specs.Signs.{whole, signWord};
-ghost use Rattle.signs.specs.Fillings.{zeroWord};
 ghost use Rattle.decision.specs.Decision.{Decides};
-ghost use Rattle.quick.specs.Quick.{quickAnswer, Settles, QuickRule, AllGive};
+ghost use Rattle.quick.specs.Quick.{quickAnswer, Settles, QuickRule, Highest, AllGive};
 
 pub mod kinds;
 
@@ -16,7 +14,7 @@ use golay::kinds::Refusal;
 use kinds::QuickAnswer;
 
 // What a word is decided for, as an answer. Refuses 6.
-fn alone(word: u32, reading: &[i32]) -> QuickAnswer
+fn answer(word: u32, reading: &[i32]) -> QuickAnswer
     ensures { λ r. ⌜ Decides (word % words) (whole positions (now (reading .entry))) (quickAnswer r) ⌝ }
 {
     match decision::decide(word, reading) {
@@ -25,15 +23,15 @@ fn alone(word: u32, reading: &[i32]) -> QuickAnswer
     }
 }
 
-// Whether every filling is decided for a codeword, given that the highest is, which has a 1 at each zero. The others follow in descending order:
-// one less, of which the bits at the zeros are kept, is the next lower choice of zeros.
-fn all_give(codeword: u32, least: u32, zeros: u32, reading: &[i32]) -> bool
-    requires { ⌜ (least ≡ signWord (whole positions (now reading))) × (zeros ≡ zeroWord (whole positions (now reading))) × Decides (least + zeros) (whole positions (now reading)) (accepted codeword) ⌝ }
+// Whether every filling is decided for a codeword, given the least one, the places of the zeros, and that the highest, which has a 1 at each of
+// them, is. The others follow in descending order: one less, of which the bits at the places are kept, is the next lower subset of them.
+fn all_give(codeword: u32, least: u32, places: u32, reading: &[i32]) -> bool
+    requires { ⌜ Highest codeword least places (whole positions (now reading)) ⌝ }
     ensures { λ r. ⌜ AllGive codeword (whole positions (now (reading .entry))) r ⌝ }
 {
-    let mut ones = zeros;
+    let mut ones = places;
     while ones > 0 {
-        ones = (ones - 1) & zeros;
+        ones = (ones - 1) & places;
         if !decision::gives(codeword, least + ones, reading) {
             return false;
         }
@@ -41,18 +39,18 @@ fn all_give(codeword: u32, least: u32, zeros: u32, reading: &[i32]) -> bool
     true
 }
 
-// What the fillings of a reading with zeros are decided for, given its word of signs. Refuses 14.
+// What the fillings of a reading with zeros are decided for, given the least one, which has a 0 at each zero. Refuses 14.
 fn fillings(least: u32, reading: &[i32]) -> QuickAnswer
     requires { ⌜ least ≡ signWord (whole positions (now reading)) ⌝ }
     ensures { λ r. ⌜ Settles (whole positions (now (reading .entry))) (quickAnswer r) ⌝ }
 {
-    let zeros = signs::zero_word(reading);
-    if golay::ones(zeros) > 4 {
+    let places = signs::zero_word(reading);
+    if golay::ones(places) > 4 {
         return QuickAnswer::Refused(Refusal::Unsettled);
     }
-    match decision::decide(least + zeros, reading) {
+    match decision::decide(least + places, reading) {
         Decision::For(codeword) => {
-            if all_give(codeword.0, least, zeros, reading) {
+            if all_give(codeword.0, least, places, reading) {
                 QuickAnswer::Accepted(codeword)
             } else {
                 QuickAnswer::Refused(Refusal::Unsettled)
@@ -70,7 +68,7 @@ pub fn quick(reading: &[i32]) -> QuickAnswer
         return QuickAnswer::Refused(Refusal::WrongLength);
     }
     if signs::clear(reading) {
-        return alone(signs::sign_word(reading), reading);
+        return answer(signs::sign_word(reading), reading);
     }
     if reading::most_negative(reading) {
         return QuickAnswer::Refused(Refusal::MostNegative);

@@ -1,5 +1,4 @@
--- The fillings of a reading are its word of signs and a choice of its zeros added to it. There are as many as two to the number of zeros; and
--- from one choice a step leads to the next lower one, so that from the highest all are met.
+-- The fillings of a reading are its word of signs with a subset of its zeros added to it. There are as many as two to the number of zeros.
 -- Assumes nothing.
 use mathlib.Core.Path.{_≡_, refl, sym, ap, _∙_, subst}
 use mathlib.Core.Logic.{_≢_, _⊎_, inl, inr}
@@ -36,7 +35,13 @@ low-bit word k n h =
 module _ (x : ℤ) (xs : List ℤ) where
   filling-cons : {b word : ℕ} → b < 2 → (x ≢ pos 0 → b ≡ one (sign x)) → Filling xs word → Filling (x ∷ xs) (b * 2 ^ length xs + word)
   filling-cons {b} {word} small first F = record {
-    short = omega (arith, two-cases (λ c. c * 2 ^ length xs ≤ 2 ^ length xs) (omega (arith, zero-mul (2 ^ length xs))) (omega (arith, one-mul (2 ^ length xs))) b small, pow-suc 2 (length xs), F .short);
+    short =
+        omega (
+          arith,
+          two-cases (λ c. c * 2 ^ length xs ≤ 2 ^ length xs) (omega (arith, zero-mul (2 ^ length xs))) (omega (arith, one-mul (2 ^ length xs))) b small,
+          pow-suc 2 (length xs),
+          F .short,
+        );
     agrees = agrees;
   }
     where
@@ -77,60 +82,60 @@ module _ (x : ℤ) (xs : List ℤ) where
         let e : suc (length xs) - (0 + 1) ≡ length xs = omega arith in
         sym (mod-eq-of-lt filling-bit) ∙ ap (λ (k : ℕ). word / 2 ^ k % 2) (sym e) ∙ F .agrees 0 (omega arith) n
 
--- ---- choices
+-- ---- subsets of the zeros
 
 -- one place more than a word of which something is known, at a zero before all its places
 abbrev pub Raised : ℤ → List ℤ → (ℕ → Type 0) → ℕ → Type 0
 Raised x xs Known s = (t : ℕ) × (isZero x ≡ true) × (s ≡ 2 ^ length xs + t) × Known t
 
 -- some of the zeros, as a word
-unfoldable pub Choice : List ℤ → ℕ → Type 0
-Choice [] s = s ≡ 0
-Choice (x ∷ xs) s = Choice xs s ⊎ Raised x xs (Choice xs) s
+unfoldable pub Subset : List ℤ → ℕ → Type 0
+Subset [] s = s ≡ 0
+Subset (x ∷ xs) s = Subset xs s ⊎ Raised x xs (Subset xs) s
 
 -- all
-pub choice-all : (xs : List ℤ) → Choice xs (zeroWord xs)
-unfolding Choice marked
-choice-all [] = refl
-choice-all (x ∷ xs) = go (isZero x) refl (choice-all xs)
+pub subset-all : (xs : List ℤ) → Subset xs (zeroWord xs)
+unfolding Subset marked
+subset-all [] = refl
+subset-all (x ∷ xs) = go (isZero x) refl (subset-all xs)
   where
-    go : (b : Bool) → isZero x ≡ b → Choice xs (zeroWord xs)
-        → Choice xs (one b * 2 ^ length xs + zeroWord xs) ⊎ Raised x xs (Choice xs) (one b * 2 ^ length xs + zeroWord xs)
+    go : (b : Bool) → isZero x ≡ b → Subset xs (zeroWord xs)
+        → Subset xs (one b * 2 ^ length xs + zeroWord xs) ⊎ Raised x xs (Subset xs) (one b * 2 ^ length xs + zeroWord xs)
     go true e all = inr (zeroWord xs, e, omega (arith, one-mul (2 ^ length xs)), all)
-    go false e all = inl (subst (Choice xs) (omega (arith, zero-mul (2 ^ length xs))) all)
+    go false e all = inl (subst (Subset xs) (omega (arith, zero-mul (2 ^ length xs))) all)
 
 -- none
-pub choice-none : (xs : List ℤ) → Choice xs 0
-unfolding Choice
-choice-none [] = refl
-choice-none (x ∷ xs) = inl (choice-none xs)
+pub subset-none : (xs : List ℤ) → Subset xs 0
+unfolding Subset
+subset-none [] = refl
+subset-none (x ∷ xs) = inl (subset-none xs)
 
-pub choice-le : (xs : List ℤ) (s : ℕ) → Choice xs s → s ≤ zeroWord xs
-unfolding Choice marked
-choice-le [] s c = omega (arith, c)
-choice-le (x ∷ xs) s (inl c) = omega (arith, choice-le xs s c)
-choice-le (x ∷ xs) s (inr (t, z, e, c)) = omega (arith, ap (λ (b : Bool). one b * 2 ^ length xs) z, one-mul (2 ^ length xs), e, choice-le xs t c)
+pub subset-le : (xs : List ℤ) (s : ℕ) → Subset xs s → s ≤ zeroWord xs
+unfolding Subset marked
+subset-le [] s c = omega (arith, c)
+subset-le (x ∷ xs) s (inl c) = omega (arith, subset-le xs s c)
+subset-le (x ∷ xs) s (inr (t, z, e, c)) = omega (arith, ap (λ (b : Bool). one b * 2 ^ length xs) z, one-mul (2 ^ length xs), e, subset-le xs t c)
 
-pub choice-lt : (xs : List ℤ) (s : ℕ) → Choice xs s → s < 2 ^ length xs
-choice-lt xs s c = omega (arith, choice-le xs s c, marked-lt isZero xs)
+pub subset-lt : (xs : List ℤ) (s : ℕ) → Subset xs s → s < 2 ^ length xs
+subset-lt xs s c = omega (arith, subset-le xs s c, marked-lt isZero xs)
 
--- ---- a filling is the word of signs with a choice added
+-- ---- a filling is the word of signs with a subset of the zeros added
 
-pub choice-filling : (xs : List ℤ) (s : ℕ) → Choice xs s → Filling xs (signWord xs + s)
-unfolding Choice marked
-choice-filling [] s c = record { short = omega (arith, c); agrees = λ i h n. absurd (omega arith) }
-choice-filling (x ∷ xs) s (inl c) =
-    subst (Filling (x ∷ xs)) (omega arith) (filling-cons x xs (one-small (sign x)) (λ n. refl) (choice-filling xs s c))
-choice-filling (x ∷ xs) s (inr (t, z, e, c)) =
+pub subset-filling : (xs : List ℤ) (s : ℕ) → Subset xs s → Filling xs (signWord xs + s)
+unfolding Subset marked
+subset-filling [] s c = record { short = omega (arith, c); agrees = λ i h n. absurd (omega arith) }
+subset-filling (x ∷ xs) s (inl c) =
+    subst (Filling (x ∷ xs)) (omega arith) (filling-cons x xs (one-small (sign x)) (λ n. refl) (subset-filling xs s c))
+subset-filling (x ∷ xs) s (inr (t, z, e, c)) =
     let e₀ : one (sign x) * 2 ^ length xs ≡ 0 = ap (λ (y : ℤ). one (sign y) * 2 ^ length xs) (zero-is x z) ∙ zero-mul (2 ^ length xs) in
     subst (Filling (x ∷ xs)) (omega (arith, e, e₀, one-mul (2 ^ length xs)))
-    (filling-cons x xs {b = 1} (omega arith) (λ n. absurd (n (zero-is x z))) (choice-filling xs t c))
+    (filling-cons x xs {b = 1} (omega arith) (λ n. absurd (n (zero-is x z))) (subset-filling xs t c))
 
--- what is left of a filling where its choice is taken off
-abbrev Chosen : List ℤ → ℕ → Type 0
-Chosen xs word = (s : ℕ) × (word ≡ signWord xs + s) × Choice xs s
+-- a word that is the word of signs with a subset added
+abbrev Added : List ℤ → ℕ → Type 0
+Added xs word = (s : ℕ) × (word ≡ signWord xs + s) × Subset xs s
 
-module _ (x : ℤ) (xs : List ℤ) {word : ℕ} (F : Filling (x ∷ xs) word) (rest : Chosen xs (word % 2 ^ length xs)) where
+module _ (x : ℤ) (xs : List ℤ) {word : ℕ} (F : Filling (x ∷ xs) word) (rest : Added xs (word % 2 ^ length xs)) where
   abbrev n : ℕ
   n = length xs
 
@@ -138,43 +143,43 @@ module _ (x : ℤ) (xs : List ℤ) {word : ℕ} (F : Filling (x ∷ xs) word) (r
   begins : {b : ℕ} → word / 2 ^ n ≡ b → word ≡ b * 2 ^ n + (signWord xs + rest .0)
   begins {b} e = sym (split word n) ∙ ap (λ (k : ℕ). k * 2 ^ n + word % 2 ^ n) e ∙ ap (λ (k : ℕ). b * 2 ^ n + k) (rest .1)
 
-  by-sign : isZero x ≡ false → Chosen (x ∷ xs) word
-  unfolding Choice marked
+  by-sign : isZero x ≡ false → Added (x ∷ xs) word
+  unfolding Subset marked
   by-sign e = (rest .0, omega (arith, begins (filling-first x xs F (other-than-zero x e))), inl (rest .2))
 
-  by-zero : isZero x ≡ true → (b : ℕ) → b < 2 → word / 2 ^ n ≡ b → Chosen (x ∷ xs) word
-  unfolding Choice marked
+  by-zero : isZero x ≡ true → (b : ℕ) → b < 2 → word / 2 ^ n ≡ b → Added (x ∷ xs) word
+  unfolding Subset marked
   by-zero e b small f =
       let e₀ : one (sign x) * 2 ^ n ≡ 0 = ap (λ (y : ℤ). one (sign y) * 2 ^ n) (zero-is x e) ∙ zero-mul (2 ^ n) in
-      two-cases (λ c. word / 2 ^ n ≡ c → Chosen (x ∷ xs) word)
+      two-cases (λ c. word / 2 ^ n ≡ c → Added (x ∷ xs) word)
       (λ g. (rest .0, omega (arith, begins g, e₀, zero-mul (2 ^ n)), inl (rest .2)))
       (λ g. (2 ^ n + rest .0, omega (arith, begins g, e₀, one-mul (2 ^ n)), inr (rest .0, e, refl, rest .2)))
       b small f
 
-  by-first : (b : Bool) → isZero x ≡ b → Chosen (x ∷ xs) word
+  by-first : (b : Bool) → isZero x ≡ b → Added (x ∷ xs) word
   by-first false e = by-sign e
   by-first true e = by-zero e (word / 2 ^ n) (filling-bit x xs F) refl
 
-pub filling-choice : (xs : List ℤ) (word : ℕ) → Filling xs word → Chosen xs word
-unfolding Choice marked
-filling-choice [] word F = (0, omega (arith, F .short), refl)
-filling-choice (x ∷ xs) word F = by-first x xs F (filling-choice xs (word % 2 ^ length xs) (filling-rest x xs F)) (isZero x) refl
+pub filling-subset : (xs : List ℤ) (word : ℕ) → Filling xs word → Added xs word
+unfolding Subset marked
+filling-subset [] word F = (0, omega (arith, F .short), refl)
+filling-subset (x ∷ xs) word F = by-first x xs F (filling-subset xs (word % 2 ^ length xs) (filling-rest x xs F)) (isZero x) refl
 
 -- ---- how many
 
-module _ (x : ℤ) (xs : List ℤ) {m : ℕ} (H : HowMany (Choice xs) m) where
+module _ (x : ℤ) (xs : List ℤ) {m : ℕ} (H : HowMany (Subset xs) m) where
   -- without the zero, and then with it
   half : (k : ℕ) → Dec (k < m) → ℕ
   half k (yes h) = H .at k
   half k (no h) = 2 ^ length xs + H .at (k - m)
 
-  half-each : isZero x ≡ true → (k : ℕ) → k < m + m → (d : Dec (k < m)) → Choice (x ∷ xs) (half k d)
-  unfolding half Choice
+  half-each : isZero x ≡ true → (k : ℕ) → k < m + m → (d : Dec (k < m)) → Subset (x ∷ xs) (half k d)
+  unfolding half Subset
   half-each z k h (yes l) = inl (H .each k l)
   half-each z k h (no l) = inr (H .at (k - m), z, refl, H .each (k - m) (omega arith))
 
-  half-every : (s : ℕ) → Choice (x ∷ xs) s → (k : ℕ) × (k < m + m) × (half k (decLt k m) ≡ s)
-  unfolding half Choice
+  half-every : (s : ℕ) → Subset (x ∷ xs) s → (k : ℕ) × (k < m + m) × (half k (decLt k m) ≡ s)
+  unfolding half Subset
   half-every s (inl c) = let (k, h, e) = H .every s c in (k, omega arith, first k h e (decLt k m))
     where
       first : (k : ℕ) → k < m → H .at k ≡ s → (d : Dec (k < m)) → half k d ≡ s
@@ -191,57 +196,60 @@ module _ (x : ℤ) (xs : List ℤ) {m : ℕ} (H : HowMany (Choice xs) m) where
   half-once : (j k : ℕ) → j < m + m → k < m + m → (d : Dec (j < m)) (e : Dec (k < m)) → half j d ≡ half k e → j ≡ k
   unfolding half
   half-once j k p q (yes a) (yes b) f = H .once j k a b f
-  half-once j k p q (yes a) (no b) f = absurd (omega (arith, choice-lt xs (H .at j) (H .each j a), f))
-  half-once j k p q (no a) (yes b) f = absurd (omega (arith, choice-lt xs (H .at k) (H .each k b), f))
+  half-once j k p q (yes a) (no b) f = absurd (omega (arith, subset-lt xs (H .at j) (H .each j a), f))
+  half-once j k p q (no a) (yes b) f = absurd (omega (arith, subset-lt xs (H .at k) (H .each k b), f))
   half-once j k p q (no a) (no b) f = omega (arith, H .once (j - m) (k - m) (omega arith) (omega arith) (omega arith))
 
-  doubled : isZero x ≡ true → HowMany (Choice (x ∷ xs)) (m + m)
-  doubled z = record {
+  twice-as-many : isZero x ≡ true → HowMany (Subset (x ∷ xs)) (m + m)
+  twice-as-many z = record {
     at = λ k. half k (decLt k m);
     each = λ k h. half-each z k h (decLt k m);
     every = half-every;
     once = λ j k p q. half-once j k p q (decLt j m) (decLt k m);
   }
 
-  as-many : isZero x ≡ false → HowMany (Choice (x ∷ xs)) m
-  unfolding Choice
+  as-many : isZero x ≡ false → HowMany (Subset (x ∷ xs)) m
+  unfolding Subset
   as-many f = record { at = H .at; each = λ k h. inl (H .each k h); every = every; once = H .once }
     where
-      every : (s : ℕ) → Choice xs s ⊎ Raised x xs (Choice xs) s → (k : ℕ) × (k < m) × (H .at k ≡ s)
+      every : (s : ℕ) → Subset xs s ⊎ Raised x xs (Subset xs) s → (k : ℕ) × (k < m) × (H .at k ≡ s)
       every s (inl c) = H .every s c
       every s (inr (t, z, e, c)) = absurd (other-than-zero x f (zero-is x z))
 
-choices-counted : (xs : List ℤ) → HowMany (Choice xs) (2 ^ zeros xs)
-unfolding Choice zeros
-choices-counted [] = record {
+subsets-counted : (xs : List ℤ) → HowMany (Subset xs) (2 ^ zeros xs)
+unfolding Subset zeros
+subsets-counted [] = record {
   at = λ k. 0;
   each = λ k h. refl;
   every = λ s e. (0, omega arith, sym e);
   once = λ j k p q e. omega arith;
 }
-choices-counted (x ∷ xs) = go (isZero x) refl (choices-counted xs)
+subsets-counted (x ∷ xs) = go (isZero x) refl (subsets-counted xs)
   where
-    go : (b : Bool) → isZero x ≡ b → HowMany (Choice xs) (2 ^ zeros xs) → HowMany (Choice (x ∷ xs)) (2 ^ (one b + zeros xs))
-    go true e H = let f : 2 ^ zeros xs + 2 ^ zeros xs ≡ 2 ^ (1 + zeros xs) = omega (arith, pow-suc 2 (zeros xs), ap (λ (k : ℕ). 2 ^ k) (one-add (zeros xs))) in subst (HowMany (Choice (x ∷ xs))) f (doubled x xs H e)
-    go false e H = subst (λ (k : ℕ). HowMany (Choice (x ∷ xs)) (2 ^ k)) (omega arith) (as-many x xs H e)
+    go : (b : Bool) → isZero x ≡ b → HowMany (Subset xs) (2 ^ zeros xs) → HowMany (Subset (x ∷ xs)) (2 ^ (one b + zeros xs))
+    go true e H =
+        let f : 2 ^ zeros xs + 2 ^ zeros xs ≡ 2 ^ (1 + zeros xs) =
+        omega (arith, pow-suc 2 (zeros xs), ap (λ (k : ℕ). 2 ^ k) (one-add (zeros xs))) in
+        subst (HowMany (Subset (x ∷ xs))) f (twice-as-many x xs H e)
+    go false e H = subst (λ (k : ℕ). HowMany (Subset (x ∷ xs)) (2 ^ k)) (omega arith) (as-many x xs H e)
 
 -- Rule 9.2: a reading with z zeros has two to the z fillings
 pub fillings-counted : (xs : List ℤ) → HowMany (Filling xs) (2 ^ zeros xs)
 fillings-counted xs = record {
   at = λ k. signWord xs + H .at k;
-  each = λ k h. choice-filling xs (H .at k) (H .each k h);
+  each = λ k h. subset-filling xs (H .at k) (H .each k h);
   every = λ word F.
-      let (s, e, c) = filling-choice xs word F in
+      let (s, e, c) = filling-subset xs word F in
       let (k, h, f) = H .every s c in
       (k, h, ap (λ (t : ℕ). signWord xs + t) f ∙ sym e);
   once = λ j k p q e. H .once j k p q (omega arith);
 }
   where
-    H : HowMany (Choice xs) (2 ^ zeros xs)
-    H = choices-counted xs
+    H : HowMany (Subset xs) (2 ^ zeros xs)
+    H = subsets-counted xs
 
 pub sign-filling : (xs : List ℤ) → Filling xs (signWord xs)
-sign-filling xs = subst (Filling xs) (omega arith) (choice-filling xs 0 (choice-none xs))
+sign-filling xs = subst (Filling xs) (omega arith) (subset-filling xs 0 (subset-none xs))
 
 -- a reading without zeros has one filling, its word of signs
 pub filling-alone : (xs : List ℤ) → zeros xs ≡ 0 → (word : ℕ) → Filling xs word → word ≡ signWord xs

@@ -1,4 +1,4 @@
--- From a choice of the zeros to the next lower one: one is taken off, and of what is left the zeros are kept.
+-- From a subset of the zeros to the next lower one: one is taken off, and of what is left the zeros are kept.
 -- Assumes nothing.
 use mathlib.Core.Path.{_≡_, refl, sym, ap, _∙_, subst}
 use mathlib.Core.Logic.{_⊎_, inl, inr}
@@ -16,12 +16,12 @@ use Rattle.contest.specs.Words.{one}
 use Rattle.signs.specs.Signs.{marked}
 use Rattle.signs.specs.Fillings.{isZero, zeroWord}
 use Rattle.signs.proofs.Zeros.{marked-lt}
-use Rattle.signs.proofs.Fillings.{Raised, Choice, choice-all, choice-le, choice-lt}
+use Rattle.signs.proofs.Fillings.{Raised, Subset, subset-all, subset-le, subset-lt}
 
--- t is the highest of the choices below s
+-- t is the highest of the subsets below s
 pub record Lower (xs : List ℤ) (s t : ℕ) : Type 0 where
-  pub choice : Choice xs t
-  pub highest : (v : ℕ) → Choice xs v → v < s → v ≤ t
+  pub subset : Subset xs t
+  pub highest : (v : ℕ) → Subset xs v → v < s → v ≤ t
 
 abbrev Step : List ℤ → ℕ → Type 0
 Step xs s = Lower xs s (bitAnd (s - 1) (zeroWord xs))
@@ -52,38 +52,38 @@ module _ (x : ℤ) (xs : List ℤ) where
   rest : bitAnd (2 ^ n - 1) (zeroWord xs) ≡ zeroWord xs
   rest = and-comm (2 ^ n - 1) (zeroWord xs) ∙ and-mask (zeroWord xs) n ∙ mod-eq-of-lt (marked-lt isZero xs)
 
-  without : (s : ℕ) → Choice xs s → 0 < s → Step xs s → Step (x ∷ xs) s
-  unfolding Choice
+  without : (s : ℕ) → Subset xs s → 0 < s → Step xs s → Step (x ∷ xs) s
+  unfolding Subset
   without s c p L =
-      let h = choice-lt xs s c in
-      subst (Lower (x ∷ xs) s) (sym (below s (omega arith) p)) (record { choice = inl (L .choice); highest = highest h })
+      let h = subset-lt xs s c in
+      subst (Lower (x ∷ xs) s) (sym (below s (omega arith) p)) (record { subset = inl (L .subset); highest = highest h })
     where
-      highest : s < 2 ^ n → (v : ℕ) → Choice xs v ⊎ Raised x xs (Choice xs) v → v < s → v ≤ bitAnd (s - 1) (zeroWord xs)
+      highest : s < 2 ^ n → (v : ℕ) → Subset xs v ⊎ Raised x xs (Subset xs) v → v < s → v ≤ bitAnd (s - 1) (zeroWord xs)
       highest h v (inl d) l = L .highest v d l
       highest h v (inr (t, z, e, d)) l = absurd (omega arith)
 
-  with-more : (s t : ℕ) → isZero x ≡ true → s ≡ 2 ^ n + t → Choice xs t → 0 < t → Step xs t → Step (x ∷ xs) s
-  unfolding Choice
+  with-more : (s t : ℕ) → isZero x ≡ true → s ≡ 2 ^ n + t → Subset xs t → 0 < t → Step xs t → Step (x ∷ xs) s
+  unfolding Subset
   with-more s t z e c p L =
-      let f = ap (λ (k : ℕ). bitAnd (k - 1) (zeroWord (x ∷ xs))) e ∙ above t z (choice-lt xs t c) p in
-      subst (Lower (x ∷ xs) s) (sym f) (record { choice = inr (bitAnd (t - 1) (zeroWord xs), z, refl, L .choice); highest = highest })
+      let f = ap (λ (k : ℕ). bitAnd (k - 1) (zeroWord (x ∷ xs))) e ∙ above t z (subset-lt xs t c) p in
+      subst (Lower (x ∷ xs) s) (sym f) (record { subset = inr (bitAnd (t - 1) (zeroWord xs), z, refl, L .subset); highest = highest })
     where
-      highest : (v : ℕ) → Choice xs v ⊎ Raised x xs (Choice xs) v → v < s → v ≤ 2 ^ n + bitAnd (t - 1) (zeroWord xs)
-      highest v (inl d) l = omega (arith, choice-lt xs v d)
+      highest : (v : ℕ) → Subset xs v ⊎ Raised x xs (Subset xs) v → v < s → v ≤ 2 ^ n + bitAnd (t - 1) (zeroWord xs)
+      highest v (inl d) l = omega (arith, subset-lt xs v d)
       highest v (inr (u, y, g, d)) l = omega (arith, L .highest u d (omega arith))
 
   with-none : (s : ℕ) → s ≡ 2 ^ n → Step (x ∷ xs) s
-  unfolding Choice
+  unfolding Subset
   with-none s e =
       let f = below s (omega arith) (omega (arith, pow-pos n)) ∙ ap (λ (k : ℕ). bitAnd (k - 1) (zeroWord xs)) e ∙ rest in
-      subst (Lower (x ∷ xs) s) (sym f) (record { choice = inl (choice-all xs); highest = highest })
+      subst (Lower (x ∷ xs) s) (sym f) (record { subset = inl (subset-all xs); highest = highest })
     where
-      highest : (v : ℕ) → Choice xs v ⊎ Raised x xs (Choice xs) v → v < s → v ≤ zeroWord xs
-      highest v (inl d) l = choice-le xs v d
+      highest : (v : ℕ) → Subset xs v ⊎ Raised x xs (Subset xs) v → v < s → v ≤ zeroWord xs
+      highest v (inl d) l = subset-le xs v d
       highest v (inr (u, y, g, d)) l = absurd (omega arith)
 
-pub step-lower : (xs : List ℤ) (s : ℕ) → Choice xs s → 0 < s → Step xs s
-unfolding Choice
+pub step-lower : (xs : List ℤ) (s : ℕ) → Subset xs s → 0 < s → Step xs s
+unfolding Subset
 step-lower [] s c p = absurd (omega (arith, c))
 step-lower (x ∷ xs) s (inl c) p = without x xs s c p (step-lower xs s c p)
 step-lower (x ∷ xs) s (inr (t, z, e, c)) p = go (decLt 0 t) (step-lower xs t c)

@@ -1,4 +1,4 @@
--- Rule 9.2: the zeros of a reading, and its fillings, for any number of positions.
+-- Rule 9.2: the zeros of a reading, and its fillings, for any number of positions; and a test that most readings pass.
 use mathlib.Core.Path.{_≡_}
 use mathlib.Core.Logic.{_≢_}
 use mathlib.Core.Bool.{Bool, true, false}
@@ -37,7 +37,7 @@ pub record HowMany (Such : ℕ → Type 0) (n : ℕ) : Type 0 where
   pub every : (m : ℕ) → Such m → (k : ℕ) × (k < n) × (at k ≡ m)
   pub once : (j k : ℕ) → j < n → k < n → at j ≡ at k → j ≡ k
 
--- whether each confidence has a sign and none is the most negative number
+-- Rules 6.3 and 9.2: whether each confidence has a sign and none is the most negative number
 pub record Clear (xs : List ℤ) (r : Bool) : Type 0 where
   pub valid : r ≡ true → mostNegative xs ≡ false
   pub none : r ≡ true → zeros xs ≡ 0

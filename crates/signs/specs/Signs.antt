@@ -8,12 +8,12 @@ use lib.ListN.{length}
 use Rattle.signed.specs.Sign.{sign}
 use Rattle.contest.specs.Words.{one}
 
--- the word that has a 1 at each confidence of which a test holds; position 1 counts most (1.2)
+-- the word that has a 1 at each confidence for which a test holds; position 1 counts most (1.2)
 unfoldable pub marked : (ℤ → Bool) → List ℤ → ℕ
 marked test [] = 0
 marked test (x ∷ xs) = one (test x) * 2 ^ length xs + marked test xs
 
--- Rule 9.2: the word of signs, a 1 where the confidence is below zero; of a reading with zeros, the filling that has a 0 at each
+-- Rule 9.2: the word of signs, a 1 where the confidence is below zero. Of a reading with zeros it is the least filling, which has a 0 at each.
 abbrev pub signWord : List ℤ → ℕ
 signWord xs = marked sign xs
 

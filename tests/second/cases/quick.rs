@@ -62,7 +62,7 @@ pub fn tied() -> Vec<i32> {
 }
 
 /// Column 2 has a zero at its top, and turning it over costs what turning column 1 over does: the
-/// word of signs is tied. The other filling is nearer to the codeword that column 2 makes.
+/// filling with a 0 there is tied. The other one is nearer to the codeword that column 2 makes.
 pub fn tied_with_zero() -> Vec<i32> {
     with_confidence(&of_column_sizes([3, 4, 4, 4, 4, 4]), 4, 0)
 }

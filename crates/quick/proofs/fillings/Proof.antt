@@ -69,11 +69,12 @@ enum-known-codeword c = search needs
 all-give-requires : tie.Need-all-give-requires
 all-give-requires c κs =
     let decided = c .before .before .before in
-    let test = decided .before in (
-      test .before .before .before .pre,
-      test .before .before .zero-word .ensures .0,
-      subst (λ d. Decides (first test) (xs test) (decisionAnswer d)) (c .before .codeword .given .1) (decides decided),
-    )
+    let test = decided .before in
+    record {
+      signs = test .before .before .before .pre;
+      zeros = test .before .before .zero-word .ensures .0;
+      decided = subst (λ d. Decides (first test) (xs test) (decisionAnswer d)) (c .before .codeword .given .1) (decides decided);
+    }
 
 enum-told : tie.Need-enum-told
 enum-told c = search needs

@@ -1,4 +1,4 @@
--- `quick::quick` meets its contract, by those of `alone` and of `fillings`.
+-- `quick::quick` meets its contract, by those of `answer` and of `fillings`.
 -- Assumes nothing.
 use mathlib.Core.Path.{ap, sym, _∙_, subst}
 use mathlib.Core.List.{List}
@@ -24,8 +24,8 @@ clear-requires c κs = search needs
 sign-word-requires : tie.Need-sign-word-requires
 sign-word-requires c κs = search needs
 
-alone-requires : tie.Need-alone-requires
-alone-requires c κs = search needs
+answer-requires : tie.Need-answer-requires
+answer-requires c κs = search needs
 
 returns-2 : tie.Need-returns-2
 returns-2 c =
@@ -36,9 +36,9 @@ returns-2 c =
     let l = clear .before .if1 .left in
     let w = whole-itself 24 xs l in
     let e = mod-eq-of-lt (signs .sign-word .ensures .1) ∙ signs .sign-word .ensures .0 ∙ ap signWord w in
-    let a = quickAnswer (c .alone .result) in
+    let a = quickAnswer (c .answer .result) in
     quick-signs xs l (clear .clear .ensures .valid (test .if2 .taken)) a (clear .clear .ensures .none (test .if2 .taken))
-    (subst (λ (ys : List ℤ). Decides (signWord xs) ys a) w (subst (λ (n : ℕ). Decides n (whole 24 xs) a) e (c .alone .ensures)))
+    (subst (λ (ys : List ℤ). Decides (signWord xs) ys a) w (subst (λ (n : ℕ). Decides n (whole 24 xs) a) e (c .answer .ensures)))
 
 most-negative-requires : tie.Need-most-negative-requires
 most-negative-requires c κs = search needs
@@ -74,7 +74,7 @@ quick-spec =
     returns
     clear-requires
     sign-word-requires
-    alone-requires
+    answer-requires
     returns-2
     most-negative-requires
     returns-3

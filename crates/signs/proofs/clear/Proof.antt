@@ -2,7 +2,7 @@
 -- Assumes nothing.
 use mathlib.Core.Path.{_≡_, sym, _∙_}
 use mathlib.Core.Logic.{_≢_}
-use mathlib.Core.Bool.{true, false}
+use mathlib.Core.Bool.{true≢false, false≢true}
 use Prim.Native.Nat.{ℕ, _-_, _≤_, _<_}
 use native.Mathlib.Omega.{arith}
 use lib.IntN.{pos, negsuc}
@@ -18,9 +18,6 @@ use Rattle.reading.proofs.Checking.{some-negative, none-negative, in-range}
 use Rattle.signs.proofs.Zeros.{some-zero, no-zero}
 use Rattle.signs.proofs.clear.Statement.{statement}
 use Rattle.signs.proofs.clear.Tie as tie
-
-never : true ≡ false → ⊥
-never e = let z : _≡_ {A = ℕ} 0 1 = cc in omega arith
 
 abbrev Inv-loop : tie.InvT-loop
 Inv-loop reading i₀ i =
@@ -45,7 +42,11 @@ returns c =
     let i = c .before .before .before .loop .i in
     let f : SFits w32 (getD xs i (pos 0)) = sfits-of (c .before .if12 .given) in
     let e : getD xs i (pos 0) ≡ negsuc 2147483647 = eq-taken f (sfits-lit tt) (c .if1 .taken) in
-    record { valid = λ g. absurd (never (sym g)); none = λ g. absurd (never (sym g)); some = λ g m. absurd (never (sym (some-negative xs i (omega arith) e) ∙ m)) }
+    record {
+      valid = λ g. absurd (false≢true g);
+      none = λ g. absurd (false≢true g);
+      some = λ g m. absurd (true≢false (sym (some-negative xs i (omega arith) e) ∙ m));
+    }
 
 mul-if2 : tie.Need-mul-if2 Inv-loop μ-loop
 mul-if2 c = omega arith
@@ -59,7 +60,7 @@ returns-2 c =
     let i = c .before .before .before .before .before .loop .i in
     let f : SFits w32 (getD xs i (pos 0)) = sfits-of (c .before .if22 .given) in
     let e : getD xs i (pos 0) ≡ pos 0 = eq-taken f (sfits-lit tt) (c .if2 .taken) in
-    record { valid = λ g. absurd (never (sym g)); none = λ g. absurd (never (sym g)); some = λ g m. some-zero xs i (omega arith) e }
+    record { valid = λ g. absurd (false≢true g); none = λ g. absurd (false≢true g); some = λ g m. some-zero xs i (omega arith) e }
 
 add-i : tie.Need-add-i Inv-loop μ-loop
 add-i c = omega arith
@@ -84,7 +85,7 @@ returns-3 c =
     record {
       valid = λ g. none-negative xs (λ k h. passed k h .0);
       none = λ g. no-zero xs (λ k h. passed k h .1);
-      some = λ g m. absurd (never g);
+      some = λ g m. absurd (true≢false g);
     }
 
 pub clear-spec : {M : Type 1} → statement M

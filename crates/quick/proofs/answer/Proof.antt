@@ -1,4 +1,4 @@
--- `quick::alone` meets its contract.
+-- `quick::answer` meets its contract.
 -- Assumes nothing.
 use mathlib.Core.Path.{subst}
 use Prim.Native.Nat.{_%_}
@@ -7,8 +7,8 @@ use borrow.Author.Needs.{needs}
 use Rattle.code.specs.Code.{words}
 use Rattle.signs.specs.Signs.{whole}
 use Rattle.decision.specs.Decision.{decisionAnswer, Decides}
-use Rattle.quick.proofs.alone.Statement.{statement}
-use Rattle.quick.proofs.alone.Tie as tie
+use Rattle.quick.proofs.answer.Statement.{statement}
+use Rattle.quick.proofs.answer.Tie as tie
 
 decide-requires : tie.Need-decide-requires
 decide-requires c κs = search needs
@@ -33,5 +33,5 @@ returns-2 c =
     subst (λ d. Decides (start .args .word % words) (whole 24 (now (start .args .reading))) (decisionAnswer d)) (c .enum-told .given .1)
     (decided .decide .ensures)
 
-pub alone-spec : {M : Type 1} → statement M
-alone-spec = tie.close (tie.spec decide-requires enum-known-codeword enum-told returns returns-2)
+pub answer-spec : {M : Type 1} → statement M
+answer-spec = tie.close (tie.spec decide-requires enum-known-codeword enum-told returns returns-2)
