@@ -5,12 +5,13 @@
 use mathlib.Core.Path.{_≡_, refl, sym, ap, subst}
 use mathlib.Core.Bool.{Bool, true, false, not}
 use mathlib.Core.List.{List}
-use Prim.Native.Nat.{ℕ, zero, suc, _<_}
+use Prim.Native.Nat.{ℕ, zero, suc, _^_, _≤_, _<_}
 use native.Mathlib.Omega.{arith}
 use lib.Dec.{eqb}
 use lib.IntN.{ℤ}
 use lib.ListN.{length}
 use borrow.Author.Tests.{eqb-true}
+use Rattle.binary.specs.Words.{distance}
 use Rattle.code.specs.Code.{positions}
 use Rattle.golay.specs.declared.kinds.Refusal.the-variants.{WrongLength, MostNegative}
 use Rattle.golay.specs.Answers.{Answer, accepted, refused, Refuse}
@@ -20,9 +21,11 @@ use Rattle.reading.specs.Cases.{allZeros}
 use Rattle.reading.specs.Checks.{mostNegative}
 use Rattle.signs.specs.Signs.{signWord}
 use Rattle.signs.specs.Fillings.{zeros, Filling}
-use Rattle.signs.proofs.Fillings.{filling-alone}
+use Rattle.signs.proofs.Fillings.{sign-filling, filling-alone}
+use Rattle.signs.proofs.Opposite.{opposite}
 use Rattle.decision.specs.Decision.{Decides}
 use Rattle.decision.proofs.Decided.{decides-six}
+use Rattle.decision.proofs.Deciding.{decided-close}
 use Rattle.quick.specs.Quick.{Settles, settled, unsettled, Answers, QuickRule, SignsRule}
 use Rattle.quick.proofs.Rules.{quick-settles, quick-once}
 use Rattle.quick.proofs.Settling.{many-unsettled}
@@ -111,6 +114,16 @@ pub many-zeros-unsettled :
     (xs : List ℤ) → length xs ≡ 24 → mostNegative xs ≡ false → 4 < zeros xs → (a : Answer ℕ) → QuickRule xs a → a ≡ refused 14
 many-zeros-unsettled xs l m h a r =
     quick-once xs a (refused 14) r (quick-settles xs l m (refused 14) (omega arith) (many-unsettled h))
+
+-- Rule 9.8: no reading is refused for having more than four zeros alone: if all fillings are decided for one codeword, there are no more, since one
+-- of them differs from that codeword at every zero
+pub four-at-most :
+    (xs : List ℤ) → length xs ≡ 24 → (c : ℕ) → ((word : ℕ) → Filling xs word → Decides word xs (accepted c)) → zeros xs ≤ 4
+four-at-most xs l c all =
+    let h = decided-close (all (signWord xs) (sign-filling xs)) .short in
+    let (word, F, apart) = opposite xs c (subst (λ (n : ℕ). c < 2 ^ n) (sym l) h) in
+    let e = ap (λ (n : ℕ). distance n word c) l in
+    omega (arith, apart, e, decided-close (all word F) .apart)
 
 -- Rule 16.6: 24 zeros
 pub all-zeros-unsettled : (a : Answer ℕ) → QuickRule allZeros a → a ≡ refused 14

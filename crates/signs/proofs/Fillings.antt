@@ -33,7 +33,7 @@ low-bit word k n h =
     ∙ mod-mod-pow (word / 2 ^ k) j 1
 
 module _ (x : ℤ) (xs : List ℤ) where
-  filling-cons : {b word : ℕ} → b < 2 → (x ≢ pos 0 → b ≡ one (sign x)) → Filling xs word → Filling (x ∷ xs) (b * 2 ^ length xs + word)
+  pub filling-cons : {b word : ℕ} → b < 2 → (x ≢ pos 0 → b ≡ one (sign x)) → Filling xs word → Filling (x ∷ xs) (b * 2 ^ length xs + word)
   filling-cons {b} {word} small first F = record {
     short =
         omega (

@@ -3,3 +3,4 @@ pub mod Turns
 pub mod Zeros
 pub mod Fillings
 pub mod Steps
+pub mod Opposite
