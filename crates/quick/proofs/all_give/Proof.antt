@@ -1,4 +1,4 @@
--- `quick::all_give` meets its contract. The invariant: the fillings with this choice of the zeros and with all higher ones are decided for the
+-- `quick::all_give` meets its contract. The invariant: the fillings with this subset of the zeros and with all higher ones are decided for the
 -- codeword.
 -- Assumes nothing.
 use mathlib.Core.Path.{subst}
