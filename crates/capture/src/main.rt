@@ -1,4 +1,5 @@
 // Decodes a capture, from the file that the argument names or from standard input: the header, a line for each record, the line where it stopped.
+#![tactic(auto)]
 ghost use Rattle.std.specs.Prelude.{◌≡◌, false, ◌+◌, ◌≤◌, ◌<◌, length};
 ghost use Rattle.lines.specs.Lines.{longest};
 ghost use Rattle.records.specs.Records.{new_length};

@@ -1,5 +1,6 @@
 // What each column of a reading says for each parity and character: eight sums a column, those of the interpretations with top bit 0. And which
 // of them a class has: its parity, and its character in each column.
+#![tactic(auto)]
 ghost use Rattle.std.specs.Prelude.{ℕ, ◌+◌, ◌*◌, ◌<◌, ◌≡◌, List, ℤ, length, get_or};
 ghost use Rattle.contest.specs.Readings.{Reading};
 ghost use Rattle.code.specs.Code.{positions};
@@ -9,7 +10,7 @@ ghost use Rattle.columns.specs.Columns.{PairOf, Narrow, SumAt, Sums, SumsUpTo, f
 // A class is a number below this.
 pub const CLASSES: u32 = 128;
 
-#[derive(Drop)]
+#[derive(Clone, Copy)]
 struct Pair {
     sum: i64,
     difference: i64,

@@ -1,5 +1,6 @@
 // The figures of all 128 classes, by codes: a sum's size times eight, and one where it is negative. The codes of six columns added hold the
 // sizes' sum and the signs' parity, and the least code holds the least size, so a figure takes no branch on a sign.
+#![tactic(auto)]
 ghost use Rattle.std.specs.Prelude.{◌≡◌, ℕ, ◌+◌, ◌*◌, ◌≤◌, ◌<◌, ℤ, get_or};
 ghost use Rattle.signed.specs.Within.{Within};
 ghost use Rattle.contest.specs.Figures.{code};
@@ -52,7 +53,7 @@ fn codes(sums: &[i64; 48]) -> [u64; 48]
 }
 
 // The codes of the first two columns: their sum with the parity, and the smaller.
-#[derive(Drop)]
+#[derive(Clone, Copy)]
 struct FirstPair {
     sum: u64,
     least: u64,

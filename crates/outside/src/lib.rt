@@ -1,5 +1,6 @@
 // What the programs that read captures have in common: failures told, text written, progress shown, and the files that arguments name.
 // A first argument `-9` says that someone reads descriptor 9 for failures: the language gives a program no exit status.
+#![tactic(auto)]
 ghost use Rattle.std.specs.Prelude.{◌≤◌};
 ghost use Rattle.io.specs.Counts.{IsPrefixLen};
 

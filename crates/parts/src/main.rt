@@ -1,4 +1,5 @@
 // For the tests alone: prints the part that `better` hands back, a line for each case on standard input (tests/second/parts.rs has the format).
+#![tactic(auto)]
 ghost use Rattle.std.specs.Prelude.{◌≡◌, ◌+◌, ◌^◌, ◌≤◌, ◌<◌, length};
 
 use golay::POSITIONS;

@@ -1,5 +1,6 @@
 // The link report: counts the readings of captures, of the files that the arguments name or of standard input, and prints the sheet. A capture
 // that can't be read is told, and then no sheet is printed.
+#![tactic(auto)]
 ghost use Rattle.std.specs.Prelude.{◌≡◌, ◌+◌, ◌≤◌, ◌<◌, ◌^◌, length};
 ghost use Rattle.records.specs.Records.{new_length};
 

@@ -51,7 +51,7 @@ lowest {z} f = omega (ints, fit_lo f)
 -- ---- reading back what an `i64` holds, as a need has it
 
 pub reads : {n : ℕ} {z : ℤ} → Within n z → n < 2 ^ 63 → to_z w64 (of_z w64 z) ≡ z
-reads b h = to_z-of_z (fits b h)
+reads {z = z} b h = to_z-of_z {w = w64} (fits b h)
 
 zero_sub : (z : ℤ) → pos 0 -ℤ z ≡ neg_ℤ z
 zero_sub z = +ℤ_idl (neg_ℤ z)

@@ -2,7 +2,7 @@
 
 // The counts of a link (rule 18.1); a smallest reserve of 0 is none. In C it is a struct too.
 #[repr(C)]
-#[derive(Drop)]
+#[derive(Clone, Copy)]
 pub struct Tally {
     pub read: u32,
     pub accepted: u32,
