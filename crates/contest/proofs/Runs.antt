@@ -2,7 +2,7 @@
 -- and the next is the larger of the next of those and the second of that run. So one run alone has to be looked into.
 use mathlib.Core.Path.{◌≡◌, sym, ap, ◌∙◌}
 use mathlib.Core.Logic.{◌≢◌}
-use Prim.Native.Nat.{ℕ, ◌+◌, ◌-◌, ◌*◌, ◌/◌, ◌%◌, ◌≤◌, ◌<◌}
+use Prim.Native.Nat.{ℕ, ◌+◌, ◌-◌, ◌*◌, ◌/◌, ◌≤◌, ◌<◌}
 use native.Mathlib.Nat.{div-add-mod', div-lt_iff_lt-mul, mod-lt, mul-le-mul_right, add-mul, one-mul}
 use native.Mathlib.Omega.{arith}
 use native.Mathlib.Decide.{ℕ_discrete}
@@ -10,7 +10,7 @@ use lib.Arith.{digits_div}
 use lib.IntN.{ℤ}
 use lib.Signed.{◌≤ℤ◌}
 use Rattle.signed.proofs.Parts.{ints}
-use Rattle.contest.specs.Largest.{Largest, Next, Best}
+use Rattle.contest.specs.Largest.{Largest, Best}
 
 -- g is the largest value from i up to j
 pub record Figure (f : ℕ → ℤ) (i j : ℕ) (g : ℤ) : Type 0 where

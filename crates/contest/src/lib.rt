@@ -1,5 +1,6 @@
 // The keeper of the two largest values of a run, and of where the largest was.
 #![tactic(auto)]
+
 ghost use Rattle.std.specs.Prelude.{◌≡◌, List, [], ◌∷◌};
 ghost use Rattle.contest.specs.Kept.{Seen, seen, Kept, taken};
 
