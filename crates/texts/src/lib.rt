@@ -1,6 +1,7 @@
 // Texts put into a lent buffer at a place: a text as it is, and lines of words and numbers. What does not fit is not begun: no byte of the
 // buffer changes, and the answer is the place itself.
 #![tactic(auto)]
+
 ghost use Rattle.std.specs.Prelude.{◌≡◌, ◌++◌, ◌+◌, ◌≤◌, ltb, length, take};
 ghost use Rattle.io.specs.Counts.{IsPrefixLen};
 ghost use Rattle.texts.specs.Texts.{decimal, line_of, line_of_two};
