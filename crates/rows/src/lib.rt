@@ -1,6 +1,7 @@
 // The code's linear maps over plain numbers: the rows that each adds up, one for each bit of a word, its lowest first. Each row follows from the
 // definitions in crates/code. Of a number with more bits than a message or a word has, each map takes the lowest.
 #![tactic(auto)]
+
 ghost use Rattle.std.specs.Prelude.{◌≡◌, [], ◌∷◌, ◌%◌, ◌<◌};
 ghost use Rattle.binary.specs.Words.{row_sum};
 ghost use Rattle.code.specs.Code.{messages, words, codeword_of, message_of, is_codeword, syndrome_of};
