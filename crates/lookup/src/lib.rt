@@ -1,5 +1,6 @@
 // The table in the program (rules 15.2 and 15.8): the error pattern of a syndrome, as it is stored and as a word.
 #![tactic(auto)]
+
 ghost use Rattle.std.specs.Prelude.{◌≡◌, ◌%◌, ◌<◌};
 ghost use Rattle.code.specs.Code.{syndromes};
 ghost use Rattle.patterns.specs.Patterns.{IsPattern};
