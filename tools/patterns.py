@@ -5,7 +5,7 @@ several have that number, the least of them as a number; and the same patterns a
     tools/patterns.py patterns     prints crates/table/proofs/Table.antt
     tools/patterns.py stored       prints crates/table/proofs/Packed.antt
     tools/patterns.py source       prints crates/lookup/src/entries.rt
-    tools/patterns.py row_of       prints crates/lookup/proofs/entries/row_of/Proof.antt
+    tools/patterns.py row_of       prints crates/lookup/proofs/entries/row_of/Answers.antt
     tools/patterns.py --write      writes all of them
     tools/patterns.py --check      compares all of them with what it would print; exit 1 where one differs
 
@@ -109,6 +109,11 @@ def high_text(high):
     return f"0x{high:04X}"
 
 
+def filled(words):
+    """As many of them in a line as `rt fmt` puts there."""
+    return ["        " + " ".join(words[start:start + 11]) for start in range(0, len(words), 11)]
+
+
 def source_row(lows, highs, n):
     """A row of the source's table. Rows are numbered in hexadecimal."""
     part = slice(n * ROW, (n + 1) * ROW)
@@ -116,7 +121,7 @@ def source_row(lows, highs, n):
         [f"const ROW_{n:02X}: Row = Row {{", "    lows: ["]
         + [f"        {low_text(low)}," for low in lows[part]]
         + ["    ],", "    highs: ["]
-        + [f"        {high_text(high)}," for high in highs[part]]
+        + filled([f"{high_text(high)}," for high in highs[part]])
         + ["    ],", "};", ""]
     )
 
@@ -125,10 +130,11 @@ def source(table):
     lows, highs = packed(table)
     lines = [
         f"// The stored error pattern of each syndrome (rule 15.8), in rows of {ROW * TOGETHER}, and the row of a number. Printed by tools/patterns.py.",
-        "ghost use Prim.Native.Nat.{_*_, _<_};",
-        "ghost use Rattle·patterns.specs.Positions.{AreStored};",
+        "ghost use Rattle.std.specs.Prelude.{◌*◌, ◌<◌};",
+        "ghost use Rattle.patterns.specs.Positions.{AreStored};",
         "",
         "// Number k of each holds the entries 4 k to 4 k + 3, from the lowest bits up: their lowest 16 bits and their highest four.",
+        "#[derive(Drop)]",
         "pub(crate) struct Row {",
         f"    pub(crate) lows: [u64; {ROW}],",
         f"    pub(crate) highs: [u16; {ROW}],",
@@ -139,8 +145,8 @@ def source(table):
         lines += source_row(lows, highs, n)
     lines += [
         "pub(crate) fn row_of(row: u32) -> Row",
-        f"    requires {{ ⌜ row < {ROWS} ⌝ }}",
-        f"    ensures {{ λ r. ⌜ AreStored (row * {ROW * TOGETHER}) {ROW * TOGETHER} (r .lows) (r .highs) ⌝ }}",
+        f"    requires {{ row < {ROWS} }}",
+        f"    ensures {{ AreStored (row * {ROW * TOGETHER}) {ROW * TOGETHER} result.lows result.highs }}",
         "{",
         "    match row {",
     ]
@@ -151,7 +157,7 @@ def source(table):
 
 def listed(comment, *lists):
     """A file of the proofs with lists of numbers, each with its name, its numbers as text and how many stand in a line."""
-    lines = [comment, "-- Assumes nothing.", "use mathlib.Core.List.{List, [], _∷_}", "use Prim.Native.Nat.{ℕ}"]
+    lines = [comment, "-- Assumes nothing.", "use mathlib.Core.List.{List, [], ◌∷◌}", "use Prim.Native.Nat.{ℕ}"]
     for name, numbers, width in lists:
         lines += ["", f"unfoldable pub {name} : List ℕ", f"{name} ="]
         lines += ["    " + " ∷ ".join(numbers[start:start + width]) + " ∷" for start in range(0, len(numbers), width)]
@@ -171,23 +177,18 @@ def stored_lists(table):
 
 
 def row_proof(table):
-    """The proof of the function that picks a row: each arm is one line, by one law."""
+    """The answers of the function that picks a row: each arm's is one line, by one law."""
     lines = [
         "-- `lookup::entries::row_of` meets its contract: each arm's row is that part of the stored table. Printed by tools/patterns.py.",
         "-- Assumes nothing.",
-        "use Rattle·table.proofs.Packed.{lows, highs}",
-        "use Rattle·lookup·proofs.proofs.Rows.{picked, left-over}",
-        "use Rattle·lookup·proofs.proofs.entries.row_of.Statement.{statement}",
-        "use Rattle·lookup·proofs.proofs.entries.row_of.Tie as tie",
-        "",
-        "pub row-of-spec : {M : Type 1} → statement M",
-        "unfolding lows highs",
-        "row-of-spec =",
-        "    tie.close",
-        "    (tie.spec",
+        "use Rattle.std.proofs.Common.{arith}",
+        "use Rattle.table.proofs.Packed.{lows, highs}",
+        "use Rattle.lookup.proofs.Rows.{picked}",
+        "use Rattle.lookup.proofs.entries.row_of.Goals as goal",
     ]
-    lines += [f"    (λ c. picked {row} (c .match .keys{row + 1}) tt)" for row in range(ROWS - 1)]
-    lines += [f"    (λ c. picked {ROWS - 1} (left-over {ROWS - 1} (c .match .rest) (c .before .pre)) tt))"]
+    arms = [(f"returns-in-{row}", f"c.in-{row}.is") for row in range(ROWS - 1)] + [("returns-in_default", "(omega arith)")]
+    for row, (name, given) in enumerate(arms):
+        lines += ["", f"pub {name} : goal.{name}", "unfolding lows highs", f"{name} c = picked {row} {given} tt"]
     return "\n".join(lines) + "\n"
 
 
@@ -195,7 +196,7 @@ FILES = {
     "patterns": ("crates/table/proofs/Table.antt", patterns_list),
     "stored": ("crates/table/proofs/Packed.antt", stored_lists),
     "source": ("crates/lookup/src/entries.rt", source),
-    "row_of": ("crates/lookup/proofs/entries/row_of/Proof.antt", row_proof),
+    "row_of": ("crates/lookup/proofs/entries/row_of/Answers.antt", row_proof),
 }
 
 
