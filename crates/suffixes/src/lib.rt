@@ -1,5 +1,6 @@
 // What the line of a record ends with, put into a lent buffer at a place, whole or not at all.
 #![tactic(auto)]
+
 ghost use Rattle.std.specs.Prelude.{◌≤◌, length};
 ghost use Rattle.texts.specs.Buffers.{Writes};
 ghost use Rattle.suffixes.specs.Suffixes.{end_of, longest_end};
