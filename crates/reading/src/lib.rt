@@ -1,5 +1,6 @@
 // A reading's check for the most negative number, before any confidence is negated.
 #![tactic(auto)]
+
 ghost use Rattle.reading.specs.Checks.{Checked};
 
 // Whether a confidence is the most negative number, whose opposite is no i32.
