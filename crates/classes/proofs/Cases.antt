@@ -14,7 +14,7 @@ use Rattle.signed.proofs.Parts.{ints}
 use Rattle.code.specs.Code.{messages, codeword_of}
 use Rattle.algebra.proofs.Encoding.{codeword_of-codeword, codeword_lt, codeword_injective}
 use Rattle.algebra.proofs.Distances.{codeword-distance}
-use Rattle.contest.specs.Words.{one, distance}
+use Rattle.contest.specs.Words.{distance}
 use Rattle.contest.specs.Readings.{Reading, correlation, clean, scores}
 use Rattle.contest.specs.Largest.{Largest}
 use Rattle.contest.specs.Answers.{Accepted, Tied}
