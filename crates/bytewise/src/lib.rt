@@ -1,6 +1,7 @@
 // Codewords as three bytes (rules 10.1 to 10.3). Each call answers for every input, and its promise decides the whole answer and what the
 // buffer holds.
 #![tactic(auto)]
+
 ghost use Rattle.std.specs.Prelude.{◌≡◌, ◌<◌, length};
 ghost use Rattle.code.specs.Code.{words};
 ghost use Rattle.golay.specs.Bytes.{word_of};
