@@ -1,6 +1,7 @@
 // Hard correction (rules 5.5, 5.6, 5.10 and 5.11), by the table of error patterns: finding a word's pattern, applying a pattern, and both in one.
 // Each call answers for every input, and its promise decides the whole answer.
 #![tactic(auto)]
+
 ghost use Rattle.std.specs.Prelude.{◌≡◌};
 ghost use Rattle.hard.specs.Answers.{find_answer, apply_answer, correct_answer};
 ghost use Rattle.hard.specs.Calls.{Finds, apply_rule, Corrects};
