@@ -1,6 +1,7 @@
 // The text of each line of output, put into a lent buffer at a place. A line that does not fit is not begun: no byte of the buffer
 // changes, and the answer is the place itself.
 #![tactic(auto)]
+
 ghost use Rattle.std.specs.Prelude.{◌≤◌, length};
 ghost use Rattle.texts.specs.Buffers.{Writes};
 ghost use Rattle.lines.specs.Lines.{header, accepted_line, refused_line, stopped_line, longest};
