@@ -1,8 +1,27 @@
 // What an argument names.
+use std::fs::File;
+use std::io::{Read, Result};
+use std::rt::Stdin;
 
-// A file that is open for reading, or one that can't be: then the descriptor is below 0. Its name is as long as this.
+// What can be read: standard input, or a file that is open, which is closed where it is let go.
+#[derive(Drop)]
+pub enum Source {
+    Standard(Stdin),
+    File(File),
+}
+
+impl Read for Source {
+    fn read(&mut self, buf: &mut [u8]) -> Result<usize> {
+        match self {
+            Source::Standard(input) => input.read(buf),
+            Source::File(file) => file.read(buf),
+        }
+    }
+}
+
+// What is open for reading, or nothing where it can't be. Its name is as long as this.
 #[derive(Drop)]
 pub struct Input {
-    pub fd: i32,
+    pub source: Option<Source>,
     pub length: usize,
 }

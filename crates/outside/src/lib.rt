@@ -1,71 +1,112 @@
 // What the programs that read captures have in common: failures told, text written, progress shown, and the files that arguments name.
-// A first argument `-9` says that someone reads descriptor 9 for failures: the language gives a program no exit status.
+// A first argument `-9` says that someone reads descriptor 9 for failures.
 #![tactic(auto)]
+
 ghost use Rattle.std.specs.Prelude.{◌≤◌};
 ghost use Rattle.io.specs.Counts.{IsPrefixLen};
 
 pub mod kinds;
 
-use kinds::Input;
-use libc::{STDERR_FILENO, STDIN_FILENO, STDOUT_FILENO};
+use kinds::{Input, Source};
+use std::env::FillError;
+use std::fmt::InlineText;
+use std::fs::{File, OpenOptions};
+use std::io::{Error, IsTerminal, Print, Result, Write};
+use std::rt::{Env, Files};
 
 // No offset comes near the end of 64 bits; this says so to the proofs.
 pub const FARTHEST: u64 = 0xFFFF_FFFF_FFFE_0000;
 
 const MEBIBYTE: u64 = 0x10_0000;
 
-const FAILURES_FILENO: i32 = 9;
+// Descriptor 9, by its name.
+const FAILURES: &str = "/proc/self/fd/9";
+
+// The numbers of two reasons: the name is too long, and it is no text.
+const ENAMETOOLONG: i32 = 36;
+
+const EILSEQ: i32 = 84;
 
 // Unasked, the descriptor may be anybody's.
-fn tells_failures() -> bool {
+fn tells_failures(rt: &impl Env) -> bool {
     let mut word = [0u8; 2];
-    let length = os::arg(1, &mut word);
-    length == 2 && word[0] == b'-' && word[1] == b'9'
+    matches!(rt.arg(1, &mut word), Ok(2)) && word[0] == b'-' && word[1] == b'9'
 }
 
 // The place of the first argument that names a file.
-pub fn first_argument() -> usize
+pub fn first_argument(rt: &impl Env) -> usize
     ensures { result ≤ 2 }
 {
-    if tells_failures() {
+    if tells_failures(rt) {
         return 2;
     }
     1
 }
 
+// Whether there is an argument at a place.
+pub fn has_argument(rt: &impl Env, place: usize) -> bool {
+    let mut none = [0u8; 1];
+    !matches!(rt.arg(place, &mut none), Err(FillError::NotPresent))
+}
+
+// To standard error, as far as it can be written.
+pub fn tell(rt: &HostRuntime, text: &[u8]) {
+    let _ = Print::write_all(&rt.stderr(), text);
+}
+
+// The reason alone, without the number that std adds to the system's words.
+fn tell_reason(rt: &HostRuntime, why: Error) {
+    let text = InlineText::<96>::of(why);
+    let all = text.as_str();
+    match all.split_once(" (os error ") {
+        Some((words, _)) => tell(rt, words.as_bytes()),
+        None => tell(rt, all.as_bytes()),
+    }
+}
+
+fn tell_failure(rt: &impl Files) -> Result<()> {
+    let mut failures = OpenOptions::new().append(true).open(rt, FAILURES)?;
+    failures.write_all(b"failed\n")
+}
+
 // What failed and why, on standard error; and that something failed, where that is asked for.
-pub fn fail(what: &[u8]) {
-    os::fail(what);
-    if tells_failures() {
-        io::write_all(FAILURES_FILENO, b"failed\n");
+pub fn fail(rt: &HostRuntime, what: &[u8], why: Error) {
+    tell(rt, what);
+    tell(rt, b": ");
+    tell_reason(rt, why);
+    tell(rt, b"\n");
+    if tells_failures(rt) {
+        let _ = tell_failure(rt);
     }
 }
 
 // To standard output.
-pub fn write_text(text: &[u8]) -> bool {
-    let written = io::write_all(STDOUT_FILENO, text);
-    if !written {
-        fail(b"standard output");
+pub fn write_text(rt: &HostRuntime, text: &[u8]) -> bool {
+    match rt.write_all(text) {
+        Ok(()) => true,
+        Err(why) => {
+            fail(rt, b"standard output", why);
+            false
+        }
     }
-    written
 }
 
 // Whether standard error is a terminal.
-pub fn is_watched() -> bool {
-    libc::isatty(STDERR_FILENO) == 1
+pub fn is_watched(rt: &HostRuntime) -> bool {
+    rt.stderr().is_terminal()
 }
 
 // How far the run has come, whenever it is a mebibyte farther. What is written next, also a failure, begins the line again.
-pub fn show_progress(shows: bool, before: u64, now: u64) {
+pub fn show_progress(rt: &impl Eprint, shows: bool, before: u64, now: u64) {
     if shows && before / MEBIBYTE < now / MEBIBYTE {
-        io::print_decimal(STDERR_FILENO, now / MEBIBYTE);
-        io::write_all(STDERR_FILENO, b" MiB decoded\r");
+        let done = now / MEBIBYTE;
+        let _ = eprint!(rt; "{done} MiB decoded\r");
     }
 }
 
-pub fn clear_progress(shows: bool) {
+pub fn clear_progress(rt: &impl Eprint, shows: bool) {
     if shows {
-        io::write_all(STDERR_FILENO, b"\r\x1b[K");
+        let _ = eprint!(rt; "\r\x1b[K");
     }
 }
 
@@ -73,37 +114,58 @@ fn is_dash(path: &[u8]) -> bool {
     path.len() == 1 && path[0] == b'-'
 }
 
-// Opens the file that an argument names; `-`, or no argument, is standard input. Its name is left in the buffer. Where it can't be opened, that
-// is told.
-pub fn open_argument(place: usize, name: &mut [u8]) -> Input
+// A path is text in UTF-8, and no file of another name can be opened.
+fn open_path(rt: &HostRuntime, path: &[u8]) -> Result<File> {
+    match str::from_utf8(path) {
+        Ok(path) => File::open(rt, path),
+        Err(_) => Err(Error::from_raw_os_error(EILSEQ)),
+    }
+}
+
+fn standard_input(rt: &HostRuntime, name: &mut [u8]) -> Input
     ensures { IsPrefixLen result.length name.new }
 {
-    let length = os::arg(place, name);
-    if os::arg_count() <= place || is_dash(&name[..length]) {
-        let named = texts::write_text(b"standard input", name, 0);
-        return Input {
-            fd: STDIN_FILENO,
-            length: named,
-        };
-    }
-    // An argument that is longer than any path: its first bytes name it.
-    if os::errno() != 0 {
-        fail(name);
-        return Input { fd: -1, length: 0 };
-    }
-    let fd = os::open_read(&name[..length]);
-    if fd < 0 {
-        fail(&name[..length]);
-    }
+    let named = texts::write_text(b"standard input", name, 0);
     Input {
-        fd: fd,
-        length: length,
+        source: Some(Source::Standard(rt.stdin())),
+        length: named,
+    }
+}
+
+// Opens the file that an argument names; `-`, or no argument, is standard input. Its name is left in the buffer. Where it can't be opened, that
+// is told.
+pub fn open_argument(rt: &HostRuntime, place: usize, name: &mut [u8]) -> Input
+    ensures { IsPrefixLen result.length name.new }
+{
+    let length = match rt.arg(place, name) {
+        Ok(length) => length,
+        Err(FillError::NotPresent) => return standard_input(rt, name),
+        // An argument that is longer than any path: its first bytes name it.
+        Err(FillError::TooLong) => {
+            fail(rt, name, Error::from_raw_os_error(ENAMETOOLONG));
+            return Input {
+                source: None,
+                length: 0,
+            };
+        }
+    };
+    if is_dash(&name[..length]) {
+        return standard_input(rt, name);
+    }
+    match open_path(rt, &name[..length]) {
+        Ok(file) => Input {
+            source: Some(Source::File(file)),
+            length,
+        },
+        Err(why) => {
+            fail(rt, &name[..length], why);
+            Input {
+                source: None,
+                length,
+            }
+        }
     }
 }
 
 // Standard input stays open: it may be named again.
-pub fn close(fd: i32) {
-    if fd != STDIN_FILENO {
-        libc::close(fd);
-    }
-}
+pub fn close(source: Source) {}

@@ -1,10 +1,11 @@
 // For the tests alone: prints the part that `better` hands back, a line for each case on standard input (tests/second/parts.rs has the format).
 #![tactic(auto)]
+
 ghost use Rattle.std.specs.Prelude.{◌≡◌, ◌+◌, ◌^◌, ◌≤◌, ◌<◌, length};
 
 use golay::POSITIONS;
-use libc::{STDIN_FILENO, STDOUT_FILENO};
 use records::OLD_RECORD;
+use std::io::Read;
 
 // A case: the reading's number in eight bytes, the two buffers' lengths in a byte each, six records for the first, six for the second.
 const FIRST: usize = 10;
@@ -51,36 +52,46 @@ fn confidences(case: &[u8], from: usize) -> [i32; 144]
     made
 }
 
-fn print_confidence(confidence: i64) {
-    io::write_all(STDOUT_FILENO, b" ");
-    if signed::negative(confidence) {
-        io::write_all(STDOUT_FILENO, b"-");
-    }
-    io::print_decimal(STDOUT_FILENO, signed::size(confidence));
+fn print_confidence(rt: &impl Print, confidence: i64) {
+    let sign = if signed::negative(confidence) {
+        "-"
+    } else {
+        ""
+    };
+    let size = signed::size(confidence);
+    let _ = print!(rt; " {sign}{size}");
 }
 
-fn print_part(part: &[i32]) {
-    io::print_decimal(STDOUT_FILENO, part.len() as u64);
+fn print_part(rt: &impl Print, part: &[i32]) {
+    let length = part.len();
+    let _ = print!(rt; "{length}");
     let mut i = 0;
     while i < part.len() {
-        print_confidence(signed::widened(part, i));
+        print_confidence(rt, signed::widened(part, i));
         i += 1;
     }
-    io::write_all(STDOUT_FILENO, b"\n");
+    let _ = println!(rt);
 }
 
 // Of buffers that have the first n and the first m of these confidences.
-fn print_better<'a>(first: &'a [i32], n: usize, second: &'a [i32], m: usize, number: usize) {
+fn print_better<'a>(
+    rt: &impl Print,
+    first: &'a [i32],
+    n: usize,
+    second: &'a [i32],
+    m: usize,
+    number: usize,
+) {
     if n > first.len() {
         return;
     }
     if m > second.len() {
         return;
     }
-    print_part(receivers::better(&first[0..n], &second[0..m], number));
+    print_part(rt, receivers::better(&first[0..n], &second[0..m], number));
 }
 
-fn print_case(case: &[u8])
+fn print_case(rt: &impl Print, case: &[u8])
     requires { length case.now ≡ 1186 }
 {
     let number = word_at(case, 0) * 0x1_0000_0000 + word_at(case, 4);
@@ -88,17 +99,17 @@ fn print_case(case: &[u8])
     let m = wide(case[9]) as usize;
     let first = confidences(case, FIRST);
     let second = confidences(case, SECOND);
-    print_better(&first, n, &second, m, number as usize);
+    print_better(rt, &first, n, &second, m, number as usize);
 }
 
-fn main() {
+fn main(rt: HostRuntime) {
     let mut cases: u32 = 0;
     while cases < MOST_CASES {
-        let mut case = [0u8; 1186];
-        if io::read_full(STDIN_FILENO, &mut case) < CASE {
+        let mut case = [0u8; CASE];
+        if rt.stdin().read_exact(&mut case).is_err() {
             return;
         }
-        print_case(&case);
+        print_case(&rt, &case);
         cases += 1;
     }
 }

@@ -1,16 +1,18 @@
 // The link report: counts the readings of captures, of the files that the arguments name or of standard input, and prints the sheet. A capture
 // that can't be read is told, and then no sheet is printed.
 #![tactic(auto)]
+
 ghost use Rattle.std.specs.Prelude.{◌≡◌, ◌+◌, ◌≤◌, ◌<◌, ◌^◌, length};
 ghost use Rattle.records.specs.Records.{new_length};
 
-use libc::STDERR_FILENO;
 use lines::LONGEST;
+use outside::kinds::Input;
 use outside::{
-    FARTHEST, clear_progress, close, fail, first_argument, is_watched, open_argument,
-    show_progress, write_text,
+    FARTHEST, clear_progress, close, fail, first_argument, has_argument, is_watched, open_argument,
+    show_progress, tell, write_text,
 };
 use sheet::{MESSAGE_LINE, OTHER_LINES};
+use std::io::Error;
 use tally::TABLE;
 use totals::kinds::Tally;
 
@@ -27,11 +29,11 @@ struct Piece {
     next: u64,
 }
 
-// The tally after a capture; whether that could not be read; and the number that it stopped with, or 0, and at which offset.
+// The tally after a capture; why that could not be read, where it couldn't; and the number that it stopped with, or 0, and at which offset.
 #[derive(Drop)]
 struct Read {
     tally: Tally,
-    failed: bool,
+    failure: Option<Error>,
     stop: u8,
     offset: u64,
 }
@@ -70,30 +72,38 @@ fn count_last(held: &[u8], count: usize, offset: u64, t: Tally, table: &mut [u32
     let tally = counted.tally;
     Read {
         tally: tally,
-        failed: false,
+        failure: None,
         stop: counted.stop,
         offset: offset + counted.through as u64,
     }
 }
 
-// Reads a capture piece after piece, and counts the whole records that are there. Where a read fails, errno tells why.
-fn count_pieces(fd: i32, shows: bool, t: Tally, held: &mut [u8], table: &mut [u32]) -> Read
+// Reads a capture piece after piece, and counts the whole records that are there.
+fn count_pieces<R: std::io::Read>(
+    rt: &HostRuntime,
+    input: &mut R,
+    shows: bool,
+    t: Tally,
+    held: &mut [u8],
+    table: &mut [u32],
+) -> Read
     requires { length held.old ≡ 65536 }
 {
     let mut tally = t;
     let mut offset: u64 = 0;
     let mut count: usize = 0;
     while offset < FARTHEST {
-        let got = libc::read(fd, &mut held[count..]);
-        if got < 0 {
-            return Read {
-                tally: tally,
-                failed: true,
-                stop: 0,
-                offset: offset,
-            };
-        }
-        let n = io::count(got, &held[count..]);
+        let n = match input.read(&mut held[count..]) {
+            Ok(n) => n,
+            Err(why) => {
+                return Read {
+                    tally: tally,
+                    failure: Some(why),
+                    stop: 0,
+                    offset: offset,
+                };
+            }
+        };
         if n == 0 {
             return count_last(held, count, offset, tally, table);
         }
@@ -102,77 +112,83 @@ fn count_pieces(fd: i32, shows: bool, t: Tally, held: &mut [u8], table: &mut [u3
         if piece.stop != 0 {
             return Read {
                 tally: tally,
-                failed: false,
+                failure: None,
                 stop: piece.stop,
                 offset: piece.next,
             };
         }
-        show_progress(shows, offset, piece.next);
+        show_progress(rt, shows, offset, piece.next);
         count = piece.left;
         offset = piece.next;
     }
     Read {
         tally: tally,
-        failed: false,
+        failure: None,
         stop: 0,
         offset: offset,
     }
 }
 
 // Where and why a capture stopped, by its name.
-fn tell_stop(name: &[u8], stop: u8, offset: u64) {
+fn tell_stop(rt: &HostRuntime, name: &[u8], stop: u8, offset: u64) {
     let mut line = [0u8; LONGEST];
     let n = lines::write_stopped(stop, offset, &mut line, 0);
-    io::write_all(STDERR_FILENO, name);
-    io::write_all(STDERR_FILENO, b": ");
-    io::write_all(STDERR_FILENO, &line[..n]);
+    tell(rt, name);
+    tell(rt, b": ");
+    tell(rt, &line[..n]);
 }
 
 // Counts the capture that an argument names, and tells what went wrong with it.
-fn count_argument(place: usize, shows: bool, t: Tally, held: &mut [u8], table: &mut [u32]) -> All
+fn count_argument(
+    rt: &HostRuntime,
+    place: usize,
+    shows: bool,
+    t: Tally,
+    held: &mut [u8],
+    table: &mut [u32],
+) -> All
     requires { length held.old ≡ 65536 }
 {
-    let mut name = io::buffer();
-    let input = open_argument(place, &mut name);
-    let fd = input.fd;
-    let length = input.length;
-    if fd < 0 {
+    let mut name = [0u8; 4096];
+    let Input { source, length } = open_argument(rt, place, &mut name);
+    let Some(mut source) = source else {
         return All {
             tally: t,
             failed: true,
         };
-    }
-    let read = count_pieces(fd, shows, t, held, table);
+    };
+    let read = count_pieces(rt, &mut source, shows, t, held, table);
     let tally = read.tally;
-    clear_progress(shows);
-    if read.failed {
-        fail(&name[..length]);
+    let failed = read.failure.is_some();
+    clear_progress(rt, shows);
+    if let Some(why) = read.failure {
+        fail(rt, &name[..length], why);
     }
     if read.stop != 0 {
-        tell_stop(&name[..length], read.stop, read.offset);
+        tell_stop(rt, &name[..length], read.stop, read.offset);
     }
-    close(fd);
+    close(source);
     All {
         tally: tally,
-        failed: read.failed,
+        failed: failed,
     }
 }
 
 // All captures in their order: standard input where no argument names one.
-fn count_all(shows: bool, t: Tally, held: &mut [u8], table: &mut [u32]) -> All
+fn count_all(rt: &HostRuntime, shows: bool, t: Tally, held: &mut [u8], table: &mut [u32]) -> All
     requires { length held.old ≡ 65536 }
 {
-    let first = first_argument();
-    let count = os::arg_count();
-    let one = count_argument(first, shows, t, held, table);
+    let first = first_argument(rt);
+    let one = count_argument(rt, first, shows, t, held, table);
     let mut tally = one.tally;
     let mut failed = one.failed;
-    let mut place = first + 1;
-    while place < count {
-        let next = count_argument(place, shows, tally, held, table);
+    for place in first + 1..usize::MAX {
+        if !has_argument(rt, place) {
+            break;
+        }
+        let next = count_argument(rt, place, shows, tally, held, table);
         tally = next.tally;
         failed = failed || next.failed;
-        place += 1;
     }
     All {
         tally: tally,
@@ -180,15 +196,15 @@ fn count_all(shows: bool, t: Tally, held: &mut [u8], table: &mut [u32]) -> All
     }
 }
 
-fn print_sheet(t: Tally, table: &[u32]) {
+fn print_sheet(rt: &HostRuntime, t: Tally, table: &[u32]) {
     let mut text = [0u8; SHEET];
     let n = sheet::write_sheet(t, table, &mut text);
-    write_text(&text[..n]);
+    write_text(rt, &text[..n]);
 }
 
-fn main() {
-    let shows = is_watched();
-    let mut held = io::large_buffer();
+fn main(rt: HostRuntime) {
+    let shows = is_watched(&rt);
+    let mut held = [0u8; 65_536];
     let mut table = [0u32; TABLE];
     let empty = Tally {
         read: 0,
@@ -198,9 +214,9 @@ fn main() {
         smallest: 0,
         total: 0,
     };
-    let all = count_all(shows, empty, &mut held, &mut table);
+    let all = count_all(&rt, shows, empty, &mut held, &mut table);
     let tally = all.tally;
     if !all.failed {
-        print_sheet(tally, &table);
+        print_sheet(&rt, tally, &table);
     }
 }
