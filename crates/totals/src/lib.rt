@@ -1,5 +1,6 @@
 // A tally, and what one more answer of the soft decoder makes of it. Each call answers for every input; where something is full nothing moves.
 #![tactic(auto)]
+
 ghost use Rattle.std.specs.Prelude.{◌≡◌};
 ghost use Rattle.golay.specs.Refusals.{number};
 ghost use Rattle.hands.specs.Hands.{HandsBack, itself};
