@@ -1,5 +1,6 @@
 // A capture as bytes: what stands at a place of it. The call answers for every slice and every place.
 #![tactic(auto)]
+
 ghost use Rattle.std.specs.Prelude.{◌≡◌, cond};
 ghost use Rattle.records.specs.Records.{ended, unfinished, stands_at, in_piece, next_from, stands_answer};
 
