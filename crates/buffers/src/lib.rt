@@ -1,6 +1,7 @@
 // A receiver's buffer: whether it holds a reading with a number, and that reading as a part of it. Both functions answer for every buffer and every
 // number.
 #![tactic(auto)]
+
 ghost use Rattle.std.specs.Prelude.{◌≡◌};
 ghost use Rattle.buffers.specs.Buffers as specs;
 ghost use Rattle.buffers.specs.Buffers.{LendsReading};
