@@ -1,5 +1,6 @@
 // A capture that comes in pieces: what is left of the bytes that are held, kept for the next piece.
 #![tactic(auto)]
+
 ghost use Rattle.std.specs.Prelude.{◌≡◌, ◌-◌, ◌≤◌, length, drop};
 ghost use Rattle.std.proofs.Math.Seq.{paste};
 ghost use Rattle.pieces.specs.Pieces.{Keeps};
