@@ -1,6 +1,7 @@
 // The rule of the error patterns and the nearest codeword: definitions in specs/, laws in proofs/. And what a stored pattern (rule 5.9) means:
 // the word that its positions make, and how many they are.
 #![tactic(auto)]
+
 ghost use Rattle.std.specs.Prelude.{◌≡◌, ◌≤◌, ◌<◌};
 ghost use Rattle.code.specs.Code.{words};
 ghost use Rattle.patterns.specs.Positions as positions;

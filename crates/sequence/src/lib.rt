@@ -1,6 +1,7 @@
 // Sequence numbers: the step from one to another, what it tells of a record, and which number is the previous one then. Each call answers for
 // every number.
 #![tactic(auto)]
+
 ghost use Rattle.std.specs.Prelude.{◌≡◌};
 ghost use Rattle.sequence.specs.Sequence.{step_from, told_by, follows_from, previous_after};
 

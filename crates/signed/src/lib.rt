@@ -1,5 +1,6 @@
 // Whole numbers with a sign: what a decoder asks of one. No function refuses a number.
 #![tactic(auto)]
+
 ghost use Rattle.std.specs.Prelude.{◌≡◌, cond, min, pos, nat_abs, get_or};
 ghost use Rattle.signed.specs.Sign.{sign};
 ghost use Rattle.signed.specs.Within.{Within};

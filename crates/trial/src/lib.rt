@@ -1,5 +1,6 @@
 // For the tests alone: calls that the library for C does not have, so that the second program's cases reach them too. tests/host/trial.h declares them.
 #![tactic(auto)]
+
 ghost use Rattle.golay.specs.Calls.{distance_rule};
 ghost use Rattle.hands.specs.Hands.{HandsBack, itself};
 
