@@ -1,6 +1,7 @@
 // What each column of a reading says for each parity and character: eight sums a column, those of the interpretations with top bit 0. And which
 // of them a class has: its parity, and its character in each column.
 #![tactic(auto)]
+
 ghost use Rattle.std.specs.Prelude.{ℕ, ◌+◌, ◌*◌, ◌<◌, ◌≡◌, List, ℤ, length, get_or};
 ghost use Rattle.contest.specs.Readings.{Reading};
 ghost use Rattle.code.specs.Code.{positions};
