@@ -1,6 +1,7 @@
 // The candidate call (rules 5.7 and 5.8), by the table of error patterns. It answers for every input, and its promise decides the whole answer
 // and what the slots hold.
 #![tactic(auto)]
+
 ghost use Rattle.std.specs.Prelude.{◌≡◌, ◌<◌, length};
 ghost use Rattle.std.specs.Int.Bits.{bit_xor};
 ghost use Rattle.code.specs.Code.{words};
