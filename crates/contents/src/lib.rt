@@ -1,5 +1,6 @@
 // What a record of a capture holds: its number and its confidences. Each call answers for every slice and every place.
 #![tactic(auto)]
+
 ghost use Rattle.std.specs.Prelude.{◌≡◌, ◌+◌, ◌≤◌, length, take, drop};
 ghost use Rattle.code.specs.Code.{positions};
 ghost use Rattle.golay.specs.Bytes.{word_of};
