@@ -164,13 +164,13 @@ stand_in_rt() {
     cat <<EOT
 #!/bin/sh
 case \$1 in
-doc) echo "$tree/kit/docs/START-HERE.md" ;;
+doc) echo "$tree/kit/START-HERE.md" ;;
 *)
-    [ ! -e "$tree/broken" ] || { echo 'rt: capture NOT PROVED (exit 1, 2 s)'; exit 1; }
-    for room in binary signed contest; do echo "rt: \$room proved (5 s)"; done
-    mkdir -p target/bin
-    printf '#!/bin/sh\necho decoded\n' >"target/bin/\$2"
-    chmod 755 "target/bin/\$2"
+    [ ! -e "$tree/broken" ] || { echo 'logic=not-proved'; exit 1; }
+    for room in binary signed contest; do printf 'crate %s: modules loaded=0 checked=9\nlogic=proved functions=3\n' \$room; done
+    mkdir -p out
+    printf '#!/bin/sh\necho decoded\n' >"out/\${PWD##*/}"
+    chmod 755 "out/\${PWD##*/}"
     ;;
 esac
 EOT
@@ -178,7 +178,7 @@ EOT
 
 # Sets tree. Its folder bare has every command but rt.
 make_tree() {
-    tree=$(mktemp -d) && mkdir -p "$tree"/{bare,crates,kit/bin,kit/on/aarch64/toolchain/bin} && cp -R run tools crates.txt "$tree" || return 1
+    tree=$(mktemp -d) && mkdir -p "$tree"/{bare,crates/capture,crates/report,kit/bin,kit/on/aarch64/toolchain/bin} && cp -R run tools crates.txt "$tree" || return 1
     stand_in_rt >"$tree/kit/bin/rt"
     printf '#!/bin/sh\nexec "$@"\n' >"$tree/kit/on/aarch64/toolchain/bin/qemu-x86_64"
     chmod 755 "$tree" "$tree/kit/bin/rt" "$tree/kit/on/aarch64/toolchain/bin/qemu-x86_64"
@@ -199,7 +199,7 @@ no_kit=', and rt, the command of the Rattle kit, is missing; it is in no Debian 
 
 building_is_told() {
     ended 1 '' "run: the capture program has to be built$no_kit" without_kit "$tree/run" && touch "$tree/broken" &&
-        ended 1 '' "$building"$'\n''rt: capture NOT PROVED (exit 1, 2 s)'$'\n'"$not_proved" with_kit "$tree/run" &&
+        ended 1 '' "$building"$'\n''logic=not-proved'$'\n'"$not_proved" with_kit "$tree/run" &&
         rm "$tree/broken" && ended 0 decoded "$building" with_kit "$tree/run" && ended 0 decoded '' with_kit "$tree/run"
 }
 
@@ -237,7 +237,7 @@ target_may_be_anothers() {
 
 try_tree() {
     make_tree || { bad "no tree with a stand-in for rt"; return; }
-    not_proved="run: the capture program is not proved: rt check capture ended with 1; $tree/target/log/build.out has the whole report"
+    not_proved="run: the capture program is not proved: rt run in crates/capture ended with 1; $tree/target/log/build.out has the whole report"
     cannot_write="run: $tree/target can't be written to, and the capture program has to be built there"
     part "./run tells that it builds, that it can't, and that the kit is missing" building_is_told
     part "./run builds the report program" report_is_built

@@ -1,30 +1,34 @@
-# Sourced by ./test: the seconds of each room and of the parts after rt ci, as a table.
+# Sourced by ./test: when each room was proved, and the seconds of the parts after rt ci, as a table.
 
 # in_minutes SECONDS
 in_minutes() { printf '%d min %02d s' "$(($1 / 60))" "$(($1 % 60))"; }
 
-# rooms_table FILE: of what rt ci printed, a line for each room: the seconds of its check, its edits and their seconds; then all of them
+# rooms_table FILE: of what rt ci printed, each line with its second before it, a line for each room: by which second it was proved, or that an
+# earlier run on this machine proved the same files; its edits, and how many of them were tried. Then all of them.
 rooms_table() {
     awk '
-        function seconds() { return match($0, /[0-9]+ s\)$/) ? substr($0, RSTART) + 0 : 0 }
-        function row(name, check, edits, tried) { printf "%-12s%9s%9s%17s\n", name, check, edits, tried }
-        $1 != "rt:" { next }
-        $3 == "proved" || $3 " " $4 == "NOT PROVED" { name[++rooms] = $2; check[rooms] = seconds(); at[$2] = rooms }
-        $2 == "must-fail" { split($3, edit, "/"); edits[at[edit[1]]]++; tried[at[edit[1]]] += seconds() }
+        function row(name, at, edits, tried) { printf "%-12s%12s%9s%9s\n", name, at, edits, tried }
+        $2 != "rt:" { next }
+        $4 == "proved" || $4 " " $5 == "NOT PROVED" || $4 " " $5 == "is kept:" {
+            if (!($3 in known)) { known[$3]; name[++rooms] = $3 }
+            at[$3] = $4 == "proved" ? $1 : $4 == "is" ? "kept" : "not proved"
+        }
+        $3 == "must-fail" { split($4, edit, "/"); edits[edit[1]]++; tried[edit[1]]++ }
+        $5 == "of" && $8 == "must-fail" { split($3, room, ":"); edits[room[1]] += 0; tried[room[1]] -= $4 }
         END {
-            row("room", "check, s", "edits", "their checks, s")
+            row("room", "proved at", "edits", "tried")
             for (i = 1; i <= rooms; i++) {
-                row(name[i], check[i], edits[i] + 0, tried[i] + 0)
-                all_check += check[i]; all_edits += edits[i]; all_tried += tried[i]
+                row(name[i], at[name[i]], edits[name[i]] + 0, tried[name[i]] + 0)
+                all_edits += edits[name[i]]; all_tried += tried[name[i]]
             }
-            row(rooms " rooms", all_check + 0, all_edits + 0, all_tried + 0)
+            row(rooms + 0 " rooms", "", all_edits + 0, all_tried + 0)
         }' "$1"
 }
 
 # table_is_whole FILE: the table made of it has every room of crates.txt and every edit
 table_is_whole() {
     want_rooms=$(grep -c '^[^#]' crates.txt) want_edits=$(find crates -path '*/must-fail/*.edit' | wc -l)
-    rooms_table "$1" | tail -n 1 | awk -v rooms="$want_rooms" -v edits="$want_edits" '{ exit !($1 == rooms && $4 == edits) }' && return
+    rooms_table "$1" | tail -n 1 | awk -v rooms="$want_rooms" -v edits="$want_edits" '{ exit !($1 == rooms && $3 == edits) }' && return
     say "crates.txt has $want_rooms rooms with $want_edits edits, and the table ends with: $(rooms_table "$1" | tail -n 1)"
     return 1
 }
@@ -38,7 +42,6 @@ timed() {
     return "$ended_with"
 }
 
-# Sums are of each check's own seconds; rt runs two or more checks at a time where the machine has the processors.
 times() {
     rooms_table target/log/ci.out
     say "rt ci: $(in_minutes "$proofs_took")"

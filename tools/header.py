@@ -1,7 +1,7 @@
 #!/usr/bin/env python3
 """Compares each header with the entry points of its source, include/garthumor.h with crates/drive and tests/host/trial.h with crates/trial: each
-is declared and each declaration is defined, with the same parameters in the same order under the same names, and the types that C has for the
-source's. Prints what differs; exit 1 where something does.
+is declared and each declaration is defined, with the same parameters in the same order under the same names (but for RENAMED), and the types that
+C has for the source's. Prints what differs; exit 1 where something does.
 
 A slice is a pointer and a length in C; the length has no name in the source, so the header chooses it. A struct that both have has the same fields
 in the same order.
@@ -19,8 +19,10 @@ NUMBERS = {"u8": "uint8_t", "u16": "uint16_t", "u32": "uint32_t", "u64": "uint64
 STRUCTS = {"Tally": ("crates/totals/src/kinds.rt", "struct garthumor_tally")}
 TYPES = NUMBERS | {name: called for name, (_, called) in STRUCTS.items()}
 LENGTH = "(length)"
+# Names of parameters in the source, and in C: in a contract `result` is the answer.
+RENAMED = {"applied": "result"}
 
-ENTRY_POINT = re.compile(r'#\[no_mangle\]\s+pub extern "C" fn (\w+)\(([^)]*)\)\s*->\s*(\w+)')
+ENTRY_POINT = re.compile(r'#\[unsafe\(no_mangle\)\]\s+pub extern "C" fn (\w+)\(([^)]*)\)\s*->\s*(\w+)')
 RATTLE_TYPE = re.compile(r"(&mut |&|)(\[?)(\w+)(\]?)")
 DECLARATION = re.compile(r"(\w+)\s+(\w+)\s*\(([^)]*)\)")
 C_PARAMETER = re.compile(r"(.*?)(\w+)", re.DOTALL)
@@ -39,7 +41,7 @@ def in_c(name, rattle):
     lent, bracket, kind, _ = match.groups()
     pointer = {"": "", "&": " *", "&mut ": " *"}[lent]
     constant = "const " if lent == "&" else ""
-    return [(constant + TYPES[kind] + pointer, name)] + ([("size_t", LENGTH)] if bracket else [])
+    return [(constant + TYPES[kind] + pointer, RENAMED.get(name, name))] + ([("size_t", LENGTH)] if bracket else [])
 
 
 def defined(text):
@@ -65,7 +67,7 @@ def declared_parameter(text):
 
 def fields_in_source(name):
     """The fields of a struct as C sees them; only one that is laid out as in C has any."""
-    match = re.search(r"#\[repr\(C\)\]\s+pub struct %s \{([^}]*)\}" % name, (ROOT / STRUCTS[name][0]).read_text(encoding="utf-8"))
+    match = re.search(r"#\[repr\(C\)\]\s+(?:#\[derive\([^)]*\)\]\s+)?pub struct %s \{([^}]*)\}" % name, (ROOT / STRUCTS[name][0]).read_text(encoding="utf-8"))
     if not match:
         raise Unreadable(f"{STRUCTS[name][0]} has no struct {name} that is laid out as in C")
     pairs = [field.split(":") for field in match[1].split(",") if field.strip()]

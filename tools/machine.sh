@@ -4,8 +4,8 @@ say() { printf '%s\n' "$*"; }
 tell() { printf '%s: %s\n' "${0##*/}" "$*" >&2; }
 die() { tell "$@"; exit 1; }
 
-# The kit's folder is two above the guide that `rt doc` prints; where there is no kit, this fails and says nothing.
-kit() { guide=$(rt doc </dev/null 2>/dev/null) && dirname "$(dirname "$guide")"; }
+# The kit's folder is that of the guide that `rt doc` prints; where there is no kit, this fails and says nothing.
+kit() { guide=$(rt doc </dev/null 2>/dev/null) && dirname "$guide"; }
 
 # need_kit WHY: dies where there is none
 need_kit() {

@@ -45,10 +45,10 @@ pub extern "C" fn garthumor_find(word: u32, pattern: &mut u32, distance: &mut u3
 }
 
 #[unsafe(no_mangle)]
-pub extern "C" fn garthumor_apply(word: u32, pattern: u32, res: &mut u32) -> u8
-    ensures { HandsBack (apply_rule word pattern) itself res.old res.new result }
+pub extern "C" fn garthumor_apply(word: u32, pattern: u32, applied: &mut u32) -> u8
+    ensures { HandsBack (apply_rule word pattern) itself applied.old applied.new result }
 {
-    onwords::apply(word, pattern, res)
+    onwords::apply(word, pattern, applied)
 }
 
 #[unsafe(no_mangle)]
