@@ -1,6 +1,7 @@
 // The codes of two columns together: of columns 3 and 4, and of 5 and 6, for each parity and each two characters. A class's figure takes two of
 // these pairs in place of four codes.
 #![tactic(auto)]
+
 ghost use Rattle.std.specs.Prelude.{ℕ, ◌+◌, ◌≤◌, min, get_or};
 ghost use Rattle.pairs.specs.Pairs.{widest, Pairs};
 
