@@ -1,6 +1,7 @@
 // The signs of a reading as a word, its zeros as another, and what an error costs by it (rules 9.2 and 9.4). Of a slice that is no reading all
 // three are 0.
 #![tactic(auto)]
+
 ghost use Rattle.std.specs.Prelude.{◌≡◌, ◌*◌, ◌/◌, ◌%◌, ◌-◌, ◌^◌, ◌<◌, ◌≤◌, pos, nat_abs, get_or};
 ghost use Rattle.signed.specs.Sign.{sign};
 ghost use Rattle.contest.specs.Words.{one};
