@@ -1,5 +1,6 @@
 // The calls on words, as C is handed them: what a call of a room below answers, as a status and outputs.
 #![tactic(auto)]
+
 ghost use Rattle.golay.specs.Calls.{encode_rule, read_rule, syndrome_rule};
 ghost use Rattle.bytewise.specs.Bytes.{bytes_of};
 ghost use Rattle.bytewise.specs.Calls.{write_bytes_rule, read_bytes_rule};
