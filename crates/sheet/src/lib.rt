@@ -1,5 +1,6 @@
 // The sheet of a link report: a tally and its table as text, put into a lent buffer. Where there is no room nothing is written.
 #![tactic(auto)]
+
 ghost use Rattle.std.specs.Prelude.{◌+◌, ◌*◌, ◌≤◌, length};
 ghost use Rattle.texts.specs.Texts.{line_feed, line_of};
 ghost use Rattle.texts.specs.Buffers.{Puts, Writes};

@@ -1,0 +1,21 @@
+-- The line of one message more stands after those of the first.
+use Rattle.std.proofs.Common.{◌+◌, ◌≤◌, length, refl, arith}
+use Rattle.texts.proofs.Buffers.{puts_then, puts_text, writes_puts}
+use Rattle.sheet.specs.Sheet.{longest_message}
+use Rattle.sheet.proofs.Lines.{lines_more, no_lines}
+use Rattle.sheet.proofs.write_messages.Goals as goal
+
+pub loop-m-init : goal.loop-m-init
+loop-m-init c = (omega arith, no_lines c.args.out.now c.args.at (omega arith), omega arith, refl)
+
+pub loop-m-preserved : goal.loop-m-preserved
+loop-m-preserved c =
+    let written = c.write_message-to.ensures in
+    let inv = c.loop-m.invariant in
+    let room : c.loop-m.to + longest_message ≤ length c.loop-m.out = omega arith in
+    let line = writes_puts longest_message written.count_len_bound room written.writes in (
+      omega arith,
+      puts_text (lines_more c.args.table.now c.loop-m.m c.loop-m-test.true) (puts_then inv.1 line),
+      omega (arith, line.place, written.count_len_bound),
+      omega arith,
+    )
