@@ -83,12 +83,12 @@ pub fn find(word: u32, pattern: &mut u32, distance: &mut u32) -> u8
     }
 }
 
-pub fn apply(word: u32, pattern: u32, res: &mut u32) -> u8
-    ensures { HandsBack (apply_rule word pattern) itself res.old res.new result }
+pub fn apply(word: u32, pattern: u32, applied: &mut u32) -> u8
+    ensures { HandsBack (apply_rule word pattern) itself applied.old applied.new result }
 {
     match hard::apply(word, Pattern(pattern)) {
         ApplyAnswer::Accepted(w) => {
-            *res = w;
+            *applied = w;
             0
         }
         ApplyAnswer::Refused(reason) => golay::refusal_number(reason),
