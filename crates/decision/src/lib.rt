@@ -1,5 +1,6 @@
 // Source document 003's rule for one word: corrected; at distance four the candidate that costs least by the reading.
 #![tactic(auto)]
+
 ghost use Rattle.std.specs.Prelude.{◌≡◌, ◌%◌, ◌<◌, pos, neg_ℤ, length};
 ghost use Rattle.signed.specs.Within.{Within};
 ghost use Rattle.contest.specs.Largest.{Best};
