@@ -1,7 +1,14 @@
-// What an argument names.
+// The system, and what an argument names.
 use std::fs::File;
 use std::io::{Read, Result};
 use std::rt::Stdin;
+
+// The system as a program has it, and whether the reader of what it writes is gone: then nothing more is written.
+#[derive(Drop)]
+pub struct System {
+    pub rt: HostRuntime,
+    pub unread: bool,
+}
 
 // What can be read: standard input, or a file that is open, which is closed where it is let go.
 #[derive(Drop)]

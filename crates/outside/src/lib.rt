@@ -7,12 +7,13 @@ ghost use Rattle.io.specs.Counts.{IsPrefixLen};
 
 pub mod kinds;
 
-use kinds::{Input, Source};
+use kinds::{Input, Source, System};
 use std::env::FillError;
 use std::fmt::InlineText;
 use std::fs::{File, OpenOptions};
-use std::io::{Error, IsTerminal, Print, Result, Write};
-use std::rt::{Env, Files};
+use std::io::{Error, ErrorKind, IsTerminal, Print, Result, Write};
+use std::process::ExitCode;
+use std::rt::Env;
 
 // No offset comes near the end of 64 bits; this says so to the proofs.
 pub const FARTHEST: u64 = 0xFFFF_FFFF_FFFE_0000;
@@ -27,86 +28,120 @@ const ENAMETOOLONG: i32 = 36;
 
 const EILSEQ: i32 = 84;
 
+// How a shell tells that a program was ended by signal 13, which says that nobody reads any more. std's programs ignore that signal.
+const UNREAD: u8 = 128 + 13;
+
+// Before anything is written.
+pub fn system(rt: HostRuntime) -> System {
+    System { rt, unread: false }
+}
+
+// What the program ends with: a failure is told, and no status.
+pub fn status(system: &System) -> ExitCode {
+    if system.unread {
+        return ExitCode::from(UNREAD);
+    }
+    ExitCode::SUCCESS
+}
+
 // Unasked, the descriptor may be anybody's.
-fn tells_failures(rt: &impl Env) -> bool {
+fn tells_failures(system: &System) -> bool {
     let mut word = [0u8; 2];
-    matches!(rt.arg(1, &mut word), Ok(2)) && word[0] == b'-' && word[1] == b'9'
+    matches!(system.rt.arg(1, &mut word), Ok(2)) && word[0] == b'-' && word[1] == b'9'
 }
 
 // The place of the first argument that names a file.
-pub fn first_argument(rt: &impl Env) -> usize
+pub fn first_argument(system: &System) -> usize
     ensures { result ≤ 2 }
 {
-    if tells_failures(rt) {
+    if tells_failures(system) {
         return 2;
     }
     1
 }
 
 // Whether there is an argument at a place.
-pub fn has_argument(rt: &impl Env, place: usize) -> bool {
+pub fn has_argument(system: &System, place: usize) -> bool {
     let mut none = [0u8; 1];
-    !matches!(rt.arg(place, &mut none), Err(FillError::NotPresent))
+    !matches!(system.rt.arg(place, &mut none), Err(FillError::NotPresent))
 }
 
-// To standard error, as far as it can be written.
-pub fn tell(rt: &HostRuntime, text: &[u8]) {
-    let _ = Print::write_all(&rt.stderr(), text);
-}
-
-// The reason alone, without the number that std adds to the system's words.
-fn tell_reason(rt: &HostRuntime, why: Error) {
-    let text = InlineText::<96>::of(why);
-    let all = text.as_str();
-    match all.split_once(" (os error ") {
-        Some((words, _)) => tell(rt, words.as_bytes()),
-        None => tell(rt, all.as_bytes()),
+// Where the reader is gone, that stays so.
+fn note(system: &mut System, written: Result<()>) {
+    if let Err(why) = written {
+        system.unread = system.unread || why.kind() == ErrorKind::BrokenPipe;
     }
 }
 
-fn tell_failure(rt: &impl Files) -> Result<()> {
+// To standard error, as far as it can be written.
+pub fn tell(system: &mut System, text: &[u8]) {
+    if !system.unread {
+        let written = Print::write_all(&system.rt.stderr(), text);
+        note(system, written);
+    }
+}
+
+// The reason alone, without the number that std adds to the system's words.
+fn tell_reason(system: &mut System, why: Error) {
+    let text = InlineText::<96>::of(why);
+    let all = text.as_str();
+    match all.split_once(" (os error ") {
+        Some((words, _)) => tell(system, words.as_bytes()),
+        None => tell(system, all.as_bytes()),
+    }
+}
+
+fn write_failure(rt: &HostRuntime) -> Result<()> {
     let mut failures = OpenOptions::new().append(true).open(rt, FAILURES)?;
     failures.write_all(b"failed\n")
 }
 
 // What failed and why, on standard error; and that something failed, where that is asked for.
-pub fn fail(rt: &HostRuntime, what: &[u8], why: Error) {
-    tell(rt, what);
-    tell(rt, b": ");
-    tell_reason(rt, why);
-    tell(rt, b"\n");
-    if tells_failures(rt) {
-        let _ = tell_failure(rt);
+pub fn fail(system: &mut System, what: &[u8], why: Error) {
+    tell(system, what);
+    tell(system, b": ");
+    tell_reason(system, why);
+    tell(system, b"\n");
+    if !system.unread && tells_failures(system) {
+        let written = write_failure(&system.rt);
+        note(system, written);
     }
 }
 
-// To standard output.
-pub fn write_text(rt: &HostRuntime, text: &[u8]) -> bool {
-    match rt.write_all(text) {
+// To standard output. That its reader is gone is no failure: who has enough ends the program, and it says nothing.
+pub fn write_text(system: &mut System, text: &[u8]) -> bool {
+    if system.unread {
+        return false;
+    }
+    match system.rt.write_all(text) {
         Ok(()) => true,
         Err(why) => {
-            fail(rt, b"standard output", why);
+            note(system, Err(why));
+            if !system.unread {
+                fail(system, b"standard output", why);
+            }
             false
         }
     }
 }
 
 // Whether standard error is a terminal.
-pub fn is_watched(rt: &HostRuntime) -> bool {
-    rt.stderr().is_terminal()
+pub fn is_watched(system: &System) -> bool {
+    system.rt.stderr().is_terminal()
 }
 
 // How far the run has come, whenever it is a mebibyte farther. What is written next, also a failure, begins the line again.
-pub fn show_progress(rt: &impl Eprint, shows: bool, before: u64, now: u64) {
-    if shows && before / MEBIBYTE < now / MEBIBYTE {
+pub fn show_progress(system: &mut System, shows: bool, before: u64, now: u64) {
+    if shows && !system.unread && before / MEBIBYTE < now / MEBIBYTE {
         let done = now / MEBIBYTE;
-        let _ = eprint!(rt; "{done} MiB decoded\r");
+        let written = eprint!(system.rt; "{done} MiB decoded\r");
+        note(system, written);
     }
 }
 
-pub fn clear_progress(rt: &impl Eprint, shows: bool) {
+pub fn clear_progress(system: &mut System, shows: bool) {
     if shows {
-        let _ = eprint!(rt; "\r\x1b[K");
+        tell(system, b"\r\x1b[K");
     }
 }
 
@@ -122,27 +157,27 @@ fn open_path(rt: &HostRuntime, path: &[u8]) -> Result<File> {
     }
 }
 
-fn standard_input(rt: &HostRuntime, name: &mut [u8]) -> Input
+fn standard_input(system: &System, name: &mut [u8]) -> Input
     ensures { IsPrefixLen result.length name.new }
 {
     let named = texts::write_text(b"standard input", name, 0);
     Input {
-        source: Some(Source::Standard(rt.stdin())),
+        source: Some(Source::Standard(system.rt.stdin())),
         length: named,
     }
 }
 
 // Opens the file that an argument names; `-`, or no argument, is standard input. Its name is left in the buffer. Where it can't be opened, that
 // is told.
-pub fn open_argument(rt: &HostRuntime, place: usize, name: &mut [u8]) -> Input
+pub fn open_argument(system: &mut System, place: usize, name: &mut [u8]) -> Input
     ensures { IsPrefixLen result.length name.new }
 {
-    let length = match rt.arg(place, name) {
+    let length = match system.rt.arg(place, name) {
         Ok(length) => length,
-        Err(FillError::NotPresent) => return standard_input(rt, name),
+        Err(FillError::NotPresent) => return standard_input(system, name),
         // An argument that is longer than any path: its first bytes name it.
         Err(FillError::TooLong) => {
-            fail(rt, name, Error::from_raw_os_error(ENAMETOOLONG));
+            fail(system, name, Error::from_raw_os_error(ENAMETOOLONG));
             return Input {
                 source: None,
                 length: 0,
@@ -150,15 +185,15 @@ pub fn open_argument(rt: &HostRuntime, place: usize, name: &mut [u8]) -> Input
         }
     };
     if is_dash(&name[..length]) {
-        return standard_input(rt, name);
+        return standard_input(system, name);
     }
-    match open_path(rt, &name[..length]) {
+    match open_path(&system.rt, &name[..length]) {
         Ok(file) => Input {
             source: Some(Source::File(file)),
             length,
         },
         Err(why) => {
-            fail(rt, &name[..length], why);
+            fail(system, &name[..length], why);
             Input {
                 source: None,
                 length,

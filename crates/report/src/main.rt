@@ -6,13 +6,14 @@ ghost use Rattle.std.specs.Prelude.{◌≡◌, ◌+◌, ◌≤◌, ◌<◌, ◌^
 ghost use Rattle.records.specs.Records.{new_length};
 
 use lines::LONGEST;
-use outside::kinds::Input;
+use outside::kinds::{Input, System};
 use outside::{
     FARTHEST, clear_progress, close, fail, first_argument, has_argument, is_watched, open_argument,
-    show_progress, tell, write_text,
+    show_progress, status, tell, write_text,
 };
 use sheet::{MESSAGE_LINE, OTHER_LINES};
 use std::io::Error;
+use std::process::ExitCode;
 use tally::TABLE;
 use totals::kinds::Tally;
 
@@ -80,7 +81,7 @@ fn count_last(held: &[u8], count: usize, offset: u64, t: Tally, table: &mut [u32
 
 // Reads a capture piece after piece, and counts the whole records that are there.
 fn count_pieces<R: std::io::Read>(
-    rt: &HostRuntime,
+    system: &mut System,
     input: &mut R,
     shows: bool,
     t: Tally,
@@ -117,7 +118,7 @@ fn count_pieces<R: std::io::Read>(
                 offset: piece.next,
             };
         }
-        show_progress(rt, shows, offset, piece.next);
+        show_progress(system, shows, offset, piece.next);
         count = piece.left;
         offset = piece.next;
     }
@@ -130,17 +131,17 @@ fn count_pieces<R: std::io::Read>(
 }
 
 // Where and why a capture stopped, by its name.
-fn tell_stop(rt: &HostRuntime, name: &[u8], stop: u8, offset: u64) {
+fn tell_stop(system: &mut System, name: &[u8], stop: u8, offset: u64) {
     let mut line = [0u8; LONGEST];
     let n = lines::write_stopped(stop, offset, &mut line, 0);
-    tell(rt, name);
-    tell(rt, b": ");
-    tell(rt, &line[..n]);
+    tell(system, name);
+    tell(system, b": ");
+    tell(system, &line[..n]);
 }
 
 // Counts the capture that an argument names, and tells what went wrong with it.
 fn count_argument(
-    rt: &HostRuntime,
+    system: &mut System,
     place: usize,
     shows: bool,
     t: Tally,
@@ -150,22 +151,22 @@ fn count_argument(
     requires { length held.old ≡ 65536 }
 {
     let mut name = [0u8; 4096];
-    let Input { source, length } = open_argument(rt, place, &mut name);
+    let Input { source, length } = open_argument(system, place, &mut name);
     let Some(mut source) = source else {
         return All {
             tally: t,
             failed: true,
         };
     };
-    let read = count_pieces(rt, &mut source, shows, t, held, table);
+    let read = count_pieces(system, &mut source, shows, t, held, table);
     let tally = read.tally;
     let failed = read.failure.is_some();
-    clear_progress(rt, shows);
+    clear_progress(system, shows);
     if let Some(why) = read.failure {
-        fail(rt, &name[..length], why);
+        fail(system, &name[..length], why);
     }
     if read.stop != 0 {
-        tell_stop(rt, &name[..length], read.stop, read.offset);
+        tell_stop(system, &name[..length], read.stop, read.offset);
     }
     close(source);
     All {
@@ -175,18 +176,18 @@ fn count_argument(
 }
 
 // All captures in their order: standard input where no argument names one.
-fn count_all(rt: &HostRuntime, shows: bool, t: Tally, held: &mut [u8], table: &mut [u32]) -> All
+fn count_all(system: &mut System, shows: bool, t: Tally, held: &mut [u8], table: &mut [u32]) -> All
     requires { length held.old ≡ 65536 }
 {
-    let first = first_argument(rt);
-    let one = count_argument(rt, first, shows, t, held, table);
+    let first = first_argument(system);
+    let one = count_argument(system, first, shows, t, held, table);
     let mut tally = one.tally;
     let mut failed = one.failed;
     for place in first + 1..usize::MAX {
-        if !has_argument(rt, place) {
+        if system.unread || !has_argument(system, place) {
             break;
         }
-        let next = count_argument(rt, place, shows, tally, held, table);
+        let next = count_argument(system, place, shows, tally, held, table);
         tally = next.tally;
         failed = failed || next.failed;
     }
@@ -196,14 +197,15 @@ fn count_all(rt: &HostRuntime, shows: bool, t: Tally, held: &mut [u8], table: &m
     }
 }
 
-fn print_sheet(rt: &HostRuntime, t: Tally, table: &[u32]) {
+fn print_sheet(system: &mut System, t: Tally, table: &[u32]) {
     let mut text = [0u8; SHEET];
     let n = sheet::write_sheet(t, table, &mut text);
-    write_text(rt, &text[..n]);
+    write_text(system, &text[..n]);
 }
 
-fn main(rt: HostRuntime) {
-    let shows = is_watched(&rt);
+fn main(rt: HostRuntime) -> ExitCode {
+    let mut system = outside::system(rt);
+    let shows = is_watched(&system);
     let mut held = [0u8; 65_536];
     let mut table = [0u32; TABLE];
     let empty = Tally {
@@ -214,9 +216,10 @@ fn main(rt: HostRuntime) {
         smallest: 0,
         total: 0,
     };
-    let all = count_all(&rt, shows, empty, &mut held, &mut table);
+    let all = count_all(&mut system, shows, empty, &mut held, &mut table);
     let tally = all.tally;
     if !all.failed {
-        print_sheet(&rt, tally, &table);
+        print_sheet(&mut system, tally, &table);
     }
+    status(&system)
 }
