@@ -2,7 +2,9 @@
 // A first argument `-9` says that someone reads descriptor 9 for failures.
 #![tactic(auto)]
 
-ghost use Rattle.std.specs.Prelude.{◌≤◌};
+ghost use Rattle.std.specs.Prelude.{◌≡◌, ◌≤◌, false, true, IfErr, OnOk};
+ghost use Rattle.std.specs.IoError.{error_kind};
+ghost use Rattle.std.specs.Process.{exit_status};
 ghost use Rattle.io.specs.Counts.{IsPrefixLen};
 
 pub mod kinds;
@@ -32,12 +34,17 @@ const EILSEQ: i32 = 84;
 const UNREAD: u8 = 128 + 13;
 
 // Before anything is written.
-pub fn system(rt: HostRuntime) -> System {
+pub fn system(rt: HostRuntime) -> System
+    ensures { result.unread ≡ false }
+{
     System { rt, unread: false }
 }
 
 // What the program ends with: a failure is told, and no status.
-pub fn status(system: &System) -> ExitCode {
+pub fn status(system: &System) -> ExitCode
+    ensures unread { system.now.unread ≡ true → exit_status result ≡ 141 }
+    ensures read { system.now.unread ≡ false → exit_status result ≡ 0 }
+{
     if system.unread {
         return ExitCode::from(UNREAD);
     }
@@ -67,14 +74,20 @@ pub fn has_argument(system: &System, place: usize) -> bool {
 }
 
 // Where the reader is gone, that stays so.
-fn note(system: &mut System, written: Result<()>) {
+fn note(system: &mut System, written: Result<()>)
+    ensures stays { system.old.unread ≡ true → system.new.unread ≡ true }
+    ensures gone { IfErr written (λ why. error_kind why ≡ ErrorKind.BrokenPipe → system.new.unread ≡ true) }
+    ensures ok { OnOk written (system.new.unread ≡ system.old.unread) }
+{
     if let Err(why) = written {
         system.unread = system.unread || why.kind() == ErrorKind::BrokenPipe;
     }
 }
 
 // To standard error, as far as it can be written.
-pub fn tell(system: &mut System, text: &[u8]) {
+pub fn tell(system: &mut System, text: &[u8])
+    ensures { system.old.unread ≡ true → system.new.unread ≡ true }
+{
     if !system.unread {
         let written = Print::write_all(&system.rt.stderr(), text);
         note(system, written);
@@ -82,7 +95,9 @@ pub fn tell(system: &mut System, text: &[u8]) {
 }
 
 // The reason alone, without the number that std adds to the system's words.
-fn tell_reason(system: &mut System, why: Error) {
+fn tell_reason(system: &mut System, why: Error)
+    ensures { system.old.unread ≡ true → system.new.unread ≡ true }
+{
     let text = InlineText::<96>::of(why);
     let all = text.as_str();
     match all.split_once(" (os error ") {
@@ -97,7 +112,9 @@ fn write_failure(rt: &HostRuntime) -> Result<()> {
 }
 
 // What failed and why, on standard error; and that something failed, where that is asked for.
-pub fn fail(system: &mut System, what: &[u8], why: Error) {
+pub fn fail(system: &mut System, what: &[u8], why: Error)
+    ensures { system.old.unread ≡ true → system.new.unread ≡ true }
+{
     tell(system, what);
     tell(system, b": ");
     tell_reason(system, why);
@@ -109,7 +126,11 @@ pub fn fail(system: &mut System, what: &[u8], why: Error) {
 }
 
 // To standard output. That its reader is gone is no failure: who has enough ends the program, and it says nothing.
-pub fn write_text(system: &mut System, text: &[u8]) -> bool {
+pub fn write_text(system: &mut System, text: &[u8]) -> bool
+    ensures stays { system.old.unread ≡ true → system.new.unread ≡ true }
+    ensures unread { system.old.unread ≡ true → result ≡ false }
+    ensures written { result ≡ true → system.new.unread ≡ false }
+{
     if system.unread {
         return false;
     }
@@ -131,7 +152,9 @@ pub fn is_watched(system: &System) -> bool {
 }
 
 // How far the run has come, whenever it is a mebibyte farther. What is written next, also a failure, begins the line again.
-pub fn show_progress(system: &mut System, shows: bool, before: u64, now: u64) {
+pub fn show_progress(system: &mut System, shows: bool, before: u64, now: u64)
+    ensures { system.old.unread ≡ true → system.new.unread ≡ true }
+{
     if shows && !system.unread && before / MEBIBYTE < now / MEBIBYTE {
         let done = now / MEBIBYTE;
         let written = eprint!(system.rt; "{done} MiB decoded\r");
@@ -139,7 +162,9 @@ pub fn show_progress(system: &mut System, shows: bool, before: u64, now: u64) {
     }
 }
 
-pub fn clear_progress(system: &mut System, shows: bool) {
+pub fn clear_progress(system: &mut System, shows: bool)
+    ensures { system.old.unread ≡ true → system.new.unread ≡ true }
+{
     if shows {
         tell(system, b"\r\x1b[K");
     }
