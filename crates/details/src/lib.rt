@@ -1,5 +1,6 @@
 // One class in detail: its two largest correlations and the message of the largest, from its six sums.
 #![tactic(auto)]
+
 ghost use Rattle.std.specs.Prelude.{◌≡◌, List, [], ◌∷◌, ℕ, ◌+◌, ◌*◌, ◌<◌, ℤ, length};
 ghost use Rattle.signed.specs.Within.{Within};
 ghost use Rattle.classes.specs.Classes.{classes, parity_of, characters_of};
