@@ -1,6 +1,7 @@
 // The figures of all 128 classes, by codes: a sum's size times eight, and one where it is negative. The codes of six columns added hold the
 // sizes' sum and the signs' parity, and the least code holds the least size, so a figure takes no branch on a sign.
 #![tactic(auto)]
+
 ghost use Rattle.std.specs.Prelude.{◌≡◌, ℕ, ◌+◌, ◌*◌, ◌≤◌, ◌<◌, ℤ, get_or};
 ghost use Rattle.signed.specs.Within.{Within};
 ghost use Rattle.contest.specs.Figures.{code};
