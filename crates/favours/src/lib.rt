@@ -1,6 +1,7 @@
 // Which of its two interpretations a column favours in a class, and how strongly. The call answers for every input, and its promise decides the
 // whole answer.
 #![tactic(auto)]
+
 ghost use Rattle.std.specs.Prelude.{◌≡◌};
 ghost use Rattle.favours.specs.Answers.{column_figure_answer};
 ghost use Rattle.favours.specs.Calls.{column_figure_rule};
