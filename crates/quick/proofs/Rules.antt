@@ -9,6 +9,7 @@ use lib.IntN.{ℤ}
 use lib.ListN.{length}
 use borrow.Author.Tests.{eq-eqb, ne_eqb}
 use Rattle.code.specs.Code.{positions}
+use Rattle.golay.specs.declared.kinds.Refusal.TheVariants.{WrongLength, MostNegative}
 use Rattle.golay.specs.Answers.{Answer, accepted, refused}
 use Rattle.golay.specs.Calls.{wrong_length}
 use Rattle.golay.proofs.Decided.{said_once, refuse-once, reason, reason_number}
@@ -61,7 +62,7 @@ answers_one (suc n) xs a b p q = settles_one p q
 
 pub quick-once : (xs : List ℤ) (a b : Answer ℕ) → QuickRule xs a → QuickRule xs b → a ≡ b
 unfolding QuickRule
-quick-once xs = refuse-once _ (wrong_length positions xs) (refuse-once _ (most_negative xs) (answers_one (zeros xs) xs))
+quick-once xs = refuse-once WrongLength (wrong_length positions xs) (refuse-once MostNegative (most_negative xs) (answers_one (zeros xs) xs))
 
 again : Answer ℕ → QuickAnswer
 again (accepted x) = quick.Accepted (record { 0 = x })

@@ -1,5 +1,6 @@
 // The quick decoder, there to be compared with: what the fillings of a reading are decided for. The soft decoder may answer otherwise (rule 9.6).
 #![tactic(auto)]
+
 ghost use Rattle.std.specs.Prelude.{◌≡◌, ◌%◌};
 ghost use Rattle.code.specs.Code.{positions, words};
 ghost use Rattle.signs.specs.Signs.{whole, sign_word};
