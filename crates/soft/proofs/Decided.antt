@@ -14,7 +14,7 @@ use Rattle.contest.specs.Answers as contest
 use Rattle.contest.proofs.Bounds.{own_range}
 use Rattle.contest.proofs.Decided.{one_answer, decided}
 use Rattle.code.specs.Code.{messages, positions}
-use Rattle.golay.specs.declared.kinds.Refusal.TheVariants.{WrongLength, MostNegative}
+use Rattle.golay.specs.declared.kinds.Refusal.TheVariants.{WrongLength, MostNegative, ClassAbove}
 use Rattle.golay.specs.Refusals.{number}
 use Rattle.golay.specs.Answers.{Answer, accepted, refused, Refuse}
 use Rattle.golay.proofs.Decided.{said_once, refuse-once, reason, reason_number}
@@ -43,7 +43,7 @@ figure-once xs k a b p q =
 
 pub soft-once : (xs : List ℤ) (a b : Answer Soft) → SoftRule xs a → SoftRule xs b → a ≡ b
 unfolding SoftRule
-soft-once xs = refuse-once _ (wrong_length positions xs) (refuse-once _ (most_negative xs) (decides_once xs))
+soft-once xs = refuse-once WrongLength (wrong_length positions xs) (refuse-once MostNegative (most_negative xs) (decides_once xs))
 
 pub soft_exists : (xs : List ℤ) → (a : Answer Soft) × SoftRule xs a
 unfolding SoftRule
@@ -59,7 +59,8 @@ soft_exists xs = go (wrong_length positions xs) (most_negative xs) refl
 pub class_figure-once : (xs : List ℤ) (k : ℕ) (a b : Answer ℤ) → ClassFigureRule xs k a → ClassFigureRule xs k b → a ≡ b
 unfolding ClassFigureRule
 class_figure-once xs k =
-    refuse-once _ (wrong_length positions xs) (refuse-once _ (most_negative xs) (refuse-once _ (class_above k) (figure-once xs k)))
+    refuse-once WrongLength (wrong_length positions xs)
+    (refuse-once MostNegative (most_negative xs) (refuse-once ClassAbove (class_above k) (figure-once xs k)))
 
 -- the contest's outcome decides every answer to a reading that is not refused before it
 pub soft-told : (xs : List ℤ) → length xs ≡ positions → most_negative xs ≡ false → (outcome : contest.Answer) → Answers messages word xs outcome

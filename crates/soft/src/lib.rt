@@ -1,6 +1,7 @@
 // The soft decoder: the codeword whose correlation no other reaches, with its reserve; and the figure of a class. Each call answers for every
 // reading, and its promise decides the whole answer.
 #![tactic(auto)]
+
 ghost use Rattle.std.specs.Prelude.{◌≡◌, List, ℤ, pos, ◌-ℤ◌, length};
 ghost use Rattle.std.specs.Int.Signed.{quot_z};
 ghost use Rattle.signed.specs.Within.{Within};
