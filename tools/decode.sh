@@ -91,7 +91,7 @@ tied() {
     if setpriv --pdeathsig TERM true 2>/dev/null; then exec setpriv --pdeathsig TERM "$@"; else exec "$@"; fi
 }
 
-# The program always ends with 0: its language has no other status. After the word -9 it tells a failure on descriptor 9, which is caught here,
+# The program ends with 0 whatever fails (with 141 where nobody reads it). After the word -9 it tells a failure on descriptor 9, which is caught here,
 # while its output passes by on 8.
 decode() {
     { failures=$(tied ${emulator:+"$emulator"} "${loader[@]}" "$programs/$job" -9 "$@" 9>&1 >&8 8>&-); } 8>&1
