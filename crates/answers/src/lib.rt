@@ -1,5 +1,6 @@
 // The line of a record. What it tells of the reading is what the soft decoder answers.
 #![tactic(auto)]
+
 ghost use Rattle.answers.specs.Telling.{Tells};
 
 use sequence::kinds::Follows;
