@@ -1,6 +1,7 @@
 // The run over bytes of a capture: each record's line, and the line where it stopped, into a lent buffer. Where there is no room nothing is
 // written, and the outcome says so.
 #![tactic(auto)]
+
 ghost use Rattle.std.specs.Prelude.{length};
 ghost use Rattle.run.specs.Runs.{Room, Lacks, Runs, RunRule};
 
