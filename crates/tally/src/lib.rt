@@ -1,6 +1,7 @@
 // The link report's tally: readings counted one by one, each message's in a lent table. Each call answers for every input, and a reading that
 // can't be counted moves nothing.
 #![tactic(auto)]
+
 ghost use Rattle.totals.specs.Totals.{totals};
 ghost use Rattle.tally.specs.Counts.{Counts};
 
