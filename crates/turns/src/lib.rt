@@ -1,5 +1,6 @@
 // A turn over the bytes that are held of a capture that comes in pieces: the run over them, and what makes up no whole record kept in front.
 #![tactic(auto)]
+
 ghost use Rattle.turns.specs.Turns.{TurnRule};
 
 pub mod kinds;
