@@ -1,6 +1,7 @@
 // The run over bytes of a capture that counts the reading of each record, of either kind; and a turn of it over the bytes that are held of a
 // capture that comes in pieces.
 #![tactic(auto)]
+
 ghost use Rattle.totals.specs.Totals.{totals};
 ghost use Rattle.counting.specs.Counting.{CountsRun, CountsTurn};
 
