@@ -1,5 +1,6 @@
 // The choice between two answers of the soft decoder, by their reserves. Both functions answer for every input.
 #![tactic(auto)]
+
 ghost use Rattle.std.specs.Prelude.{◌≡◌};
 ghost use Rattle.soft.specs.Answers.{soft_answer};
 ghost use Rattle.choices.specs.Choices.{receiver, reserve_of, preferred};

@@ -1,5 +1,6 @@
 // The calls on readings, as C is handed them: what a call of a room below answers, as a status and outputs.
 #![tactic(auto)]
+
 ghost use Rattle.favours.specs.Calls.{column_figure_rule};
 ghost use Rattle.soft.specs.Calls.{ClassFigureRule, SoftRule};
 ghost use Rattle.quick.specs.Quick.{QuickRule};

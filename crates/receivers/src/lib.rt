@@ -1,6 +1,7 @@
 // Two receivers: which of them has the better reading with a number, and that reading as a part of its buffer. Each call answers for every pair of
 // buffers and every number, and its promise decides the whole answer.
 #![tactic(auto)]
+
 ghost use Rattle.choices.specs.Choices.{receiver};
 ghost use Rattle.receivers.specs.Calls.{Chooses, LendsBetter};
 
