@@ -1,5 +1,6 @@
 // The entry points for C. Each is a thin call of a room below; include/garthumor.h declares them.
 #![tactic(auto)]
+
 ghost use Rattle.golay.specs.Calls.{encode_rule, read_rule, syndrome_rule};
 ghost use Rattle.bytewise.specs.Bytes.{bytes_of};
 ghost use Rattle.bytewise.specs.Calls.{write_bytes_rule, read_bytes_rule};
