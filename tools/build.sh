@@ -51,7 +51,7 @@ prove() {
     mkdir -p "$root/${2%/*}" && cp --remove-destination -- "$made" "$root/$2" && touch "$root/$2"
 }
 
-# The programs are capture and report.
+# The programs are capture and report, and parts for the tests.
 is_built() { fresh "target/bin/$1"; }
 build_program() { is_built "$1" || prove "the $1 program" "target/bin/$1" run "$1"; }
 build_library() { fresh target/staticlib/libdrive.a || prove "the library for C" target/staticlib/libdrive.a lib drive; }
