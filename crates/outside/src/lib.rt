@@ -59,7 +59,8 @@ fn tells_failures(system: &System) -> bool {
 
 // The place of the first argument that names a file.
 pub fn first_argument(system: &System) -> usize
-    ensures { result ≤ 2 }
+    ensures lower_bound { 1 ≤ result }
+    ensures upper_bound { result ≤ 2 }
 {
     if tells_failures(system) {
         return 2;
