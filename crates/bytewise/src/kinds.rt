@@ -1,13 +1,13 @@
 // The answers of the calls that write and read bytes.
 use golay::kinds::{Codeword, Refusal};
 
-#[derive(Drop)]
+#[derive(Clone, Copy)]
 pub enum WriteBytesAnswer {
     Accepted,
     Refused(Refusal),
 }
 
-#[derive(Drop)]
+#[derive(Clone, Copy)]
 pub enum ReadBytesAnswer {
     Accepted(Codeword),
     Refused(Refusal),

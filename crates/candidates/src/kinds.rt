@@ -2,7 +2,7 @@
 use golay::kinds::Refusal;
 
 // What an accepted call wrote shows in the slots.
-#[derive(Drop)]
+#[derive(Clone, Copy)]
 pub enum CandidatesAnswer {
     Accepted,
     Refused(Refusal),

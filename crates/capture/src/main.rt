@@ -70,7 +70,8 @@ fn write_turn(
     ensures left_lt_new_length { result.outcome.stopped ≡ false → result.left < new_length }
 {
     let mut t = turns::turn(held, count, previous, offset, text);
-    let put = t.outcome.put;
+    let outcome = t.outcome;
+    let put = outcome.put;
     if !write_text(system, text, put) {
         t.outcome.stopped = true;
     }

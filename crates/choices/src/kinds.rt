@@ -1,7 +1,7 @@
 // What two readings are compared to.
 
 // The receiver with the better reading, or neither (rule 17.4); specs/Choices.antt gives each its number.
-#[derive(Drop)]
+#[derive(Clone, Copy)]
 pub enum Choice {
     First,
     Second,

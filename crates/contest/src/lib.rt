@@ -4,7 +4,7 @@
 ghost use Rattle.std.specs.Prelude.{◌≡◌, List, [], ◌∷◌};
 ghost use Rattle.contest.specs.Kept.{Seen, seen, Kept, taken};
 
-#[derive(Drop)]
+#[derive(Clone, Copy)]
 pub struct Keeper {
     pub best: i64,
     pub second: i64,

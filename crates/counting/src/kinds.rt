@@ -3,7 +3,7 @@ use totals::kinds::Tally;
 
 // The tally after a run over bytes of a capture; the number that the run stopped with, 9 or 10, or 0 where it did not; and how many bytes it
 // came through.
-#[derive(Drop)]
+#[derive(Clone, Copy)]
 pub struct Counted {
     pub tally: Tally,
     pub stop: u8,
@@ -11,7 +11,7 @@ pub struct Counted {
 }
 
 // The same after a turn, and how many bytes are left after it.
-#[derive(Drop)]
+#[derive(Clone, Copy)]
 pub struct CountedTurn {
     pub counted: Counted,
     pub left: usize,

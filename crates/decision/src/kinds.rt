@@ -2,7 +2,7 @@
 use golay::kinds::Codeword;
 
 // The codeword that the word is decided for, or two candidates that share the least cost.
-#[derive(Drop)]
+#[derive(Clone, Copy)]
 pub enum Decision {
     For(Codeword),
     Tied,

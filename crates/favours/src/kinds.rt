@@ -1,7 +1,7 @@
 // What the column figure's call answers.
 use golay::kinds::Refusal;
 
-#[derive(Drop)]
+#[derive(Clone, Copy)]
 pub enum ColumnFigureAnswer {
     Accepted(i64),
     Refused(Refusal),

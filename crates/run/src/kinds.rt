@@ -6,7 +6,7 @@ use sequence::kinds::Number;
 
 // How many bytes of text the run put into the buffer; whether it stopped: with 9 or 10, or, with nothing put, for want of room; how many bytes
 // it came through, and the previous number then.
-#[derive(Drop)]
+#[derive(Clone, Copy)]
 pub struct Outcome {
     pub put: usize,
     pub stopped: bool,

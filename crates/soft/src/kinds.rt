@@ -2,7 +2,7 @@
 use golay::kinds::{Codeword, Message, Refusal};
 
 // What is accepted (rules 7.1 and 7.2): a message and its codeword, its correlation and its reserve.
-#[derive(Drop)]
+#[derive(Clone, Copy)]
 pub struct Soft {
     pub message: Message,
     pub codeword: Codeword,
@@ -10,13 +10,13 @@ pub struct Soft {
     pub reserve: i64,
 }
 
-#[derive(Drop)]
+#[derive(Clone, Copy)]
 pub enum SoftAnswer {
     Accepted(Soft),
     Refused(Refusal),
 }
 
-#[derive(Drop)]
+#[derive(Clone, Copy)]
 pub enum ClassFigureAnswer {
     Accepted(i64),
     Refused(Refusal),

@@ -13,7 +13,7 @@ pub struct Tally {
 }
 
 // A tally after a reading, and 0 where that was counted, else the number of the refusal.
-#[derive(Drop)]
+#[derive(Clone, Copy)]
 pub struct Step {
     pub tally: Tally,
     pub status: u8,

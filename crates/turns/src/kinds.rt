@@ -2,7 +2,7 @@
 use run::kinds::Outcome;
 
 // How many bytes are left after a turn, and the offset of the first of them.
-#[derive(Drop)]
+#[derive(Clone, Copy)]
 pub struct Turned {
     pub outcome: Outcome,
     pub left: usize,
