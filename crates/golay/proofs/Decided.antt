@@ -5,18 +5,14 @@ use mathlib.Core.Bool.{Bool, true, false, cond}
 use mathlib.Core.List.{List, [], ◌∷◌}
 use Prim.Native.Nat.{ℕ}
 use lib.Dec.{eqb}
+use Rattle.std.specs.Prelude.{Result, Ok, Err}
 use Rattle.golay.specs.declared.kinds.Refusal.{Refusal}
 use Rattle.golay.specs.declared.kinds.Refusal.TheVariants.{WrongLength, MostNegative, MessageAbove, WordAbove, NotCodeword, Tied, DistanceFour, NotDistanceFour, NoMark, CutShort, ClassAbove, CountFull, Unsettled, NoColumn}
-use Rattle.golay.specs.declared.kinds.EncodeAnswer.{EncodeAnswer}
-use Rattle.golay.specs.declared.kinds.EncodeAnswer.TheVariants as encode
-use Rattle.golay.specs.declared.kinds.ReadAnswer.{ReadAnswer}
-use Rattle.golay.specs.declared.kinds.ReadAnswer.TheVariants as read
-use Rattle.golay.specs.declared.kinds.SyndromeAnswer.{SyndromeAnswer}
-use Rattle.golay.specs.declared.kinds.SyndromeAnswer.TheVariants as syndrome
-use Rattle.golay.specs.declared.kinds.DistanceAnswer.{DistanceAnswer}
-use Rattle.golay.specs.declared.kinds.DistanceAnswer.TheVariants as distance
+use Rattle.golay.specs.declared.kinds.Codeword.{Codeword}
+use Rattle.golay.specs.declared.kinds.Message.{Message}
+use Rattle.golay.specs.declared.kinds.Syndrome.{Syndrome}
 use Rattle.golay.specs.Refusals.{number}
-use Rattle.golay.specs.Answers.{Answer, accepted, refused, Refuse, encode_answer, read_answer, syndrome_answer, distance_answer}
+use Rattle.golay.specs.Answers.{Answer, accepted, refused, Refuse, answer_of, encode_answer, read_answer, syndrome_answer, distance_answer}
 use Rattle.golay.specs.Calls.{encode_rule, read_rule, syndrome_rule, distance_rule}
 
 -- the law for all calls: where g makes an answer again from what f says of it, two answers of which f says the same are equal
@@ -57,52 +53,31 @@ reason_number CountFull = refl
 reason_number Unsettled = refl
 reason_number NoColumn = refl
 
-encode_again : Answer ℕ → EncodeAnswer
-encode_again (accepted x) = encode.Accepted (record { 0 = x })
-encode_again (refused n) = encode.Refused (reason n)
+-- a call's result is made again from the answer that it says, where its kind is made again from its values
+pub again : {T A : Type 0} → (A → T) → Answer A → Result T Refusal
+again make (accepted x) = Ok (make x)
+again make (refused n) = Err (reason n)
 
-encode_back : (r : EncodeAnswer) → encode_again (encode_answer r) ≡ r
-unfolding encode_again
-encode_back (encode.Accepted x) = refl
-encode_back (encode.Refused r) = ap encode.Refused (reason_number r)
+pub again_back : {T A : Type 0} (values : T → A) (make : A → T) → ((x : T) → make (values x) ≡ x) → (r : Result T Refusal) → again make (answer_of values r) ≡ r
+unfolding again
+again_back values make back (Ok x) = ap Ok (back x)
+again_back values make back (Err r) = ap Err (reason_number r)
 
-read_again : Answer ℕ → ReadAnswer
-read_again (accepted x) = read.Accepted (record { 0 = x })
-read_again (refused n) = read.Refused (reason n)
-
-read_back : (r : ReadAnswer) → read_again (read_answer r) ≡ r
-unfolding read_again
-read_back (read.Accepted x) = refl
-read_back (read.Refused r) = ap read.Refused (reason_number r)
-
-syndrome_again : Answer ℕ → SyndromeAnswer
-syndrome_again (accepted x) = syndrome.Accepted (record { 0 = x })
-syndrome_again (refused n) = syndrome.Refused (reason n)
-
-syndrome_back : (r : SyndromeAnswer) → syndrome_again (syndrome_answer r) ≡ r
-unfolding syndrome_again
-syndrome_back (syndrome.Accepted x) = refl
-syndrome_back (syndrome.Refused r) = ap syndrome.Refused (reason_number r)
-
-distance_again : Answer ℕ → DistanceAnswer
-distance_again (accepted x) = distance.Accepted x
-distance_again (refused n) = distance.Refused (reason n)
-
-distance_back : (r : DistanceAnswer) → distance_again (distance_answer r) ≡ r
-unfolding distance_again
-distance_back (distance.Accepted x) = refl
-distance_back (distance.Refused r) = ap distance.Refused (reason_number r)
+-- the law for all calls: two results that say the same answer are equal
+pub answer-once : {T A : Type 0} (values : T → A) (make : A → T) → ((x : T) → make (values x) ≡ x)
+    → {a : Answer A} (x y : Result T Refusal) → answer_of values x ≡ a → answer_of values y ≡ a → x ≡ y
+answer-once values make back = said_once (answer_of values) (again make) (again_back values make back)
 
 -- ---- call by call
 
-pub encode-decided : (m : ℕ) (x y : EncodeAnswer) → encode_answer x ≡ encode_rule m → encode_answer y ≡ encode_rule m → x ≡ y
-encode-decided m = said_once encode_answer encode_again encode_back
+pub encode-decided : (m : ℕ) (x y : Result Codeword Refusal) → encode_answer x ≡ encode_rule m → encode_answer y ≡ encode_rule m → x ≡ y
+encode-decided m = answer-once (λ codeword. codeword.0) (λ n. record { 0 = n }) (λ x. refl)
 
-pub read-decided : (word : ℕ) (x y : ReadAnswer) → read_answer x ≡ read_rule word → read_answer y ≡ read_rule word → x ≡ y
-read-decided word = said_once read_answer read_again read_back
+pub read-decided : (word : ℕ) (x y : Result Message Refusal) → read_answer x ≡ read_rule word → read_answer y ≡ read_rule word → x ≡ y
+read-decided word = answer-once (λ message. message.0) (λ n. record { 0 = n }) (λ x. refl)
 
-pub syndrome-decided : (word : ℕ) (x y : SyndromeAnswer) → syndrome_answer x ≡ syndrome_rule word → syndrome_answer y ≡ syndrome_rule word → x ≡ y
-syndrome-decided word = said_once syndrome_answer syndrome_again syndrome_back
+pub syndrome-decided : (word : ℕ) (x y : Result Syndrome Refusal) → syndrome_answer x ≡ syndrome_rule word → syndrome_answer y ≡ syndrome_rule word → x ≡ y
+syndrome-decided word = answer-once (λ s. s.0) (λ n. record { 0 = n }) (λ x. refl)
 
-pub distance-decided : (a b : ℕ) (x y : DistanceAnswer) → distance_answer x ≡ distance_rule a b → distance_answer y ≡ distance_rule a b → x ≡ y
-distance-decided a b = said_once distance_answer distance_again distance_back
+pub distance-decided : (a b : ℕ) (x y : Result ℕ Refusal) → distance_answer x ≡ distance_rule a b → distance_answer y ≡ distance_rule a b → x ≡ y
+distance-decided a b = answer-once (λ d. d) (λ d. d) (λ d. refl)

@@ -1,14 +1,9 @@
 -- Rules 11.2, 11.4 and 15.5: an answer of any call is values, or the number of a refusal. Each call's own answer is read as one here.
-use Rattle.std.specs.Prelude.{◌≡◌, Bool, true, false, ℕ}
+use Rattle.std.specs.Prelude.{◌≡◌, Bool, true, false, ℕ, Result, Ok, Err}
 use Rattle.golay.specs.declared.kinds.Refusal.{Refusal}
-use Rattle.golay.specs.declared.kinds.EncodeAnswer.{EncodeAnswer}
-use Rattle.golay.specs.declared.kinds.EncodeAnswer.TheVariants as encode
-use Rattle.golay.specs.declared.kinds.ReadAnswer.{ReadAnswer}
-use Rattle.golay.specs.declared.kinds.ReadAnswer.TheVariants as read
-use Rattle.golay.specs.declared.kinds.SyndromeAnswer.{SyndromeAnswer}
-use Rattle.golay.specs.declared.kinds.SyndromeAnswer.TheVariants as syndrome
-use Rattle.golay.specs.declared.kinds.DistanceAnswer.{DistanceAnswer}
-use Rattle.golay.specs.declared.kinds.DistanceAnswer.TheVariants as distance
+use Rattle.golay.specs.declared.kinds.Codeword.{Codeword}
+use Rattle.golay.specs.declared.kinds.Message.{Message}
+use Rattle.golay.specs.declared.kinds.Syndrome.{Syndrome}
 use Rattle.golay.specs.Refusals.{number}
 
 -- Rule 11.4: values, or a number and no value beside it
@@ -27,19 +22,20 @@ module _ {A : Type 0} where
   Refuse reason true Next answer = answer ≡ refused (number reason)
   Refuse reason false Next answer = Next answer
 
--- Rule 15.5: the answers of the calls, each case by its values or its number
-abbrev pub encode_answer : EncodeAnswer → Answer ℕ
-encode_answer (encode.Accepted codeword) = accepted codeword.0
-encode_answer (encode.Refused reason) = refused (number reason)
+-- Rule 15.5: what a call's result says, by its values or its number; `values` takes the values out of the call's kind
+abbrev pub answer_of : {T A : Type 0} → (T → A) → Result T Refusal → Answer A
+answer_of values (Ok x) = accepted (values x)
+answer_of values (Err reason) = refused (number reason)
 
-abbrev pub read_answer : ReadAnswer → Answer ℕ
-read_answer (read.Accepted message) = accepted message.0
-read_answer (read.Refused reason) = refused (number reason)
+-- the answers of the calls
+abbrev pub encode_answer : Result Codeword Refusal → Answer ℕ
+encode_answer r = answer_of (λ codeword. codeword.0) r
 
-abbrev pub syndrome_answer : SyndromeAnswer → Answer ℕ
-syndrome_answer (syndrome.Accepted s) = accepted s.0
-syndrome_answer (syndrome.Refused reason) = refused (number reason)
+abbrev pub read_answer : Result Message Refusal → Answer ℕ
+read_answer r = answer_of (λ message. message.0) r
 
-abbrev pub distance_answer : DistanceAnswer → Answer ℕ
-distance_answer (distance.Accepted d) = accepted d
-distance_answer (distance.Refused reason) = refused (number reason)
+abbrev pub syndrome_answer : Result Syndrome Refusal → Answer ℕ
+syndrome_answer r = answer_of (λ s. s.0) r
+
+abbrev pub distance_answer : Result ℕ Refusal → Answer ℕ
+distance_answer r = answer_of (λ d. d) r

@@ -9,9 +9,7 @@ ghost use Rattle.golay.specs.Calls.{encode_rule, read_rule, syndrome_rule, dista
 
 pub mod kinds;
 
-use kinds::{
-    Codeword, DistanceAnswer, EncodeAnswer, Message, ReadAnswer, Refusal, Syndrome, SyndromeAnswer,
-};
+use kinds::{Codeword, Message, Refusal, Syndrome};
 use rows::{codeword_of, is_codeword, message_of, syndrome_of};
 
 // A word's positions; a reading has a confidence for each.
@@ -27,63 +25,67 @@ pub const WORDS: u32 = 16_777_216;
 pub fn wide(byte: u8) -> u32
     ensures { (result ≡ byte) × (result < 256) }
 {
-    byte as u32
+    u32::from(byte)
 }
 
 // The number of a refusal (rule 11.1).
-pub fn refusal_number(reason: Refusal) -> u8
-    ensures { result ≡ number reason }
-{
-    match reason {
-        Refusal::WrongLength => 1,
-        Refusal::MostNegative => 2,
-        Refusal::MessageAbove => 3,
-        Refusal::WordAbove => 4,
-        Refusal::NotCodeword => 5,
-        Refusal::Tied => 6,
-        Refusal::DistanceFour => 7,
-        Refusal::NotDistanceFour => 8,
-        Refusal::NoMark => 9,
-        Refusal::CutShort => 10,
-        Refusal::ClassAbove => 11,
-        Refusal::CountFull => 12,
-        Refusal::Unsettled => 14,
-        Refusal::NoColumn => 18,
+impl From<Refusal> for u8 {
+    ghost from_gives = { λ reason n. n ≡ number reason };
+
+    fn from(reason: Refusal) -> u8
+        ensures { result ≡ number reason }
+    {
+        match reason {
+            Refusal::WrongLength => 1,
+            Refusal::MostNegative => 2,
+            Refusal::MessageAbove => 3,
+            Refusal::WordAbove => 4,
+            Refusal::NotCodeword => 5,
+            Refusal::Tied => 6,
+            Refusal::DistanceFour => 7,
+            Refusal::NotDistanceFour => 8,
+            Refusal::NoMark => 9,
+            Refusal::CutShort => 10,
+            Refusal::ClassAbove => 11,
+            Refusal::CountFull => 12,
+            Refusal::Unsettled => 14,
+            Refusal::NoColumn => 18,
+        }
     }
 }
 
 // The codeword of a message. Refuses 3.
-pub fn encode(message: Message) -> EncodeAnswer
+pub fn encode(message: Message) -> Result<Codeword, Refusal>
     ensures { encode_answer result ≡ encode_rule message.0 }
 {
     let m = message.0;
     if m >= MESSAGES {
-        return EncodeAnswer::Refused(Refusal::MessageAbove);
+        return Err(Refusal::MessageAbove);
     }
-    EncodeAnswer::Accepted(Codeword(codeword_of(m)))
+    Ok(Codeword(codeword_of(m)))
 }
 
 // The message of a codeword. Refuses 4, then 5.
-pub fn read(word: u32) -> ReadAnswer
+pub fn read(word: u32) -> Result<Message, Refusal>
     ensures { read_answer result ≡ read_rule word }
 {
     if word >= WORDS {
-        return ReadAnswer::Refused(Refusal::WordAbove);
+        return Err(Refusal::WordAbove);
     }
     if !is_codeword(word) {
-        return ReadAnswer::Refused(Refusal::NotCodeword);
+        return Err(Refusal::NotCodeword);
     }
-    ReadAnswer::Accepted(Message(message_of(word)))
+    Ok(Message(message_of(word)))
 }
 
 // The syndrome of any word. Refuses 4.
-pub fn syndrome(word: u32) -> SyndromeAnswer
+pub fn syndrome(word: u32) -> Result<Syndrome, Refusal>
     ensures { syndrome_answer result ≡ syndrome_rule word }
 {
     if word >= WORDS {
-        return SyndromeAnswer::Refused(Refusal::WordAbove);
+        return Err(Refusal::WordAbove);
     }
-    SyndromeAnswer::Accepted(Syndrome(syndrome_of(word)))
+    Ok(Syndrome(syndrome_of(word)))
 }
 
 // How many ones a number of 32 bits has (rule 15.7).
@@ -94,14 +96,14 @@ pub fn ones(number: u32) -> u32
 }
 
 // In how many positions two words differ. Refuses 4.
-pub fn distance(a: u32, b: u32) -> DistanceAnswer
+pub fn distance(a: u32, b: u32) -> Result<u32, Refusal>
     ensures { distance_answer result ≡ distance_rule a b }
 {
     if a >= WORDS {
-        return DistanceAnswer::Refused(Refusal::WordAbove);
+        return Err(Refusal::WordAbove);
     }
     if b >= WORDS {
-        return DistanceAnswer::Refused(Refusal::WordAbove);
+        return Err(Refusal::WordAbove);
     }
-    DistanceAnswer::Accepted(ones(a ^ b))
+    Ok(ones(a ^ b))
 }
