@@ -12,20 +12,17 @@ use golay::POSITIONS;
 pub fn has_reading(buffer: &[i32], number: usize) -> bool
     ensures { result ≡ specs.has_reading buffer.now number }
 {
-    if buffer.len() % POSITIONS != 0 {
-        return false;
-    }
-    number < buffer.len() / POSITIONS
+    buffer.len().is_multiple_of(POSITIONS) && number < buffer.len() / POSITIONS
 }
 
 // The reading with this number, as a part of the buffer; an empty part where the buffer holds none.
+// Stays: an empty part and no Option: `LendsReading` says of it where it begins, and rule 17.5 hands it on.
 pub fn reading_at<'a>(buffer: &'a [i32], number: usize) -> &'a [i32]
     ensures { LendsReading buffer.entry number result }
 {
     if !has_reading(buffer, number) {
-        return &buffer[0..0];
+        return &buffer[..0];
     }
     let from = POSITIONS * number;
-    let to = from + POSITIONS;
-    &buffer[from..to]
+    &buffer[from..from + POSITIONS]
 }

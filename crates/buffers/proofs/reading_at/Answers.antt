@@ -6,7 +6,7 @@ use native.Mathlib.Omega.{arith}
 use borrow.Author.Rules.{rules}
 use lib.ListN.{length}
 use Rattle.buffers.specs.Buffers.{has_reading, reading_at}
-use Rattle.buffers.proofs.Holding.{held-room, reading-none, begins-held, begins-none, from_start}
+use Rattle.buffers.proofs.Holding.{held-room, reading-none, begins-held, begins-none}
 use Rattle.buffers.proofs.reading_at.Goals as goal
 use Rattle.buffers.proofs.reading_at.Goals.{Else-not-has_reading}
 
@@ -24,14 +24,14 @@ returns-then-not-has_reading c =
     let e = sym c.has_reading.ensures ∙ c.if-not-has_reading.true in
     record {
       contents = sym (reading-none c.args.buffer.now c.args.number e);
-      begins = from_start c.args.buffer.ref_ptr ∙ sym (begins-none c.args.buffer.now c.args.number e c.args.buffer.ref_ptr);
+      begins = sym (begins-none c.args.buffer.now c.args.number e c.args.buffer.ref_ptr);
     }
 
 pub overflow_mul-from : goal.overflow_mul-from
 overflow_mul-from c = let h = room c in search rules
 
-pub overflow_add-to : goal.overflow_add-to
-overflow_add-to c = let h = room c in search rules
+pub overflow_add-result : goal.overflow_add-result
+overflow_add-result c = let h = room c in search rules
 
 pub offset_bounds-buffer-from : goal.offset_bounds-buffer-from
 offset_bounds-buffer-from c = let h = room c in search rules
