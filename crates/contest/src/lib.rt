@@ -18,8 +18,8 @@ impl Keeper {
     {
         Keeper {
             best: value,
-            second: -9223372036854775808,
-            at: at,
+            second: i64::MIN,
+            at,
         }
     }
 
@@ -28,19 +28,16 @@ impl Keeper {
         ensures kept { (l : List Seen) → Kept l self → Kept (seen value at ∷ l) result }
         ensures value { result ≡ taken self value at }
     {
-        let best = self.best;
-        let second = self.second;
-        if best < value {
+        if self.best < value {
             Keeper {
                 best: value,
-                second: best,
-                at: at,
+                second: self.best,
+                at,
             }
-        } else if second < value {
+        } else if self.second < value {
             Keeper {
-                best: best,
                 second: value,
-                at: self.at,
+                ..self
             }
         } else {
             self

@@ -5,30 +5,30 @@ use Rattle.signed.proofs.Locals.{lowest}
 use Rattle.contest.proofs.Keeping.{taken-best, taken-second, taken_none, keep-step}
 use Rattle.contest.proofs.Keeper.take.Goals as goal
 
-pub returns-then-best-value-clause-kept : goal.returns-then-best-value-clause-kept
-returns-then-best-value-clause-kept c =
+pub returns-then-self-value-clause-kept : goal.returns-then-self-value-clause-kept
+returns-then-self-value-clause-kept c =
     let a = c.args in
     let b : FitsSigned w64 c.args.self.best = search rules in
     let v = c.ranges.value in
-    let e = rw (to_z-of_z b, to_z-of_z v) at c.if-best-value.true in
+    let e = rw (to_z-of_z b, to_z-of_z v) at c.if-self-value.true in
     simp (to_z-of_z b, to_z-of_z v) (keep-step (lowest b) (taken-best a.self a.value a.at e)).0
 
-pub returns-then-second-value-clause-kept : goal.returns-then-second-value-clause-kept
-returns-then-second-value-clause-kept c =
+pub returns-then-self-value-2-clause-kept : goal.returns-then-self-value-2-clause-kept
+returns-then-self-value-2-clause-kept c =
     let a = c.args in
     let b : FitsSigned w64 c.args.self.best = search rules in
     let s : FitsSigned w64 c.args.self.second = search rules in
     let v = c.ranges.value in
-    let e = rw (to_z-of_z b, to_z-of_z v) at c.if-best-value.false in
-    let g = rw (to_z-of_z s, to_z-of_z v) at c.if-second-value.true in
+    let e = rw (to_z-of_z b, to_z-of_z v) at c.if-self-value.false in
+    let g = rw (to_z-of_z s, to_z-of_z v) at c.if-self-value-2.true in
     simp (to_z-of_z b, to_z-of_z v) (keep-step (lowest b) (taken-second a.self a.value a.at e g)).0
 
-pub returns-else-second-value-clause-kept : goal.returns-else-second-value-clause-kept
-returns-else-second-value-clause-kept c =
+pub returns-else-self-value-2-clause-kept : goal.returns-else-self-value-2-clause-kept
+returns-else-self-value-2-clause-kept c =
     let a = c.args in
     let b : FitsSigned w64 c.args.self.best = search rules in
     let s : FitsSigned w64 c.args.self.second = search rules in
     let v = c.ranges.value in
-    let e = rw (to_z-of_z b, to_z-of_z v) at c.if-best-value.false in
-    let g = rw (to_z-of_z s, to_z-of_z v) at c.if-second-value.false in
+    let e = rw (to_z-of_z b, to_z-of_z v) at c.if-self-value.false in
+    let g = rw (to_z-of_z s, to_z-of_z v) at c.if-self-value-2.false in
     (keep-step (lowest b) (taken_none a.self a.value a.at e g)).0
