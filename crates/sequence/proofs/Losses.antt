@@ -1,11 +1,10 @@
 -- Losses add up: the steps of records that each follow with a loss lead from the first number to the last.
 -- Assumes nothing.
-use Rattle.std.proofs.Common.{◌≡◌, ℕ, suc, ◌+◌, ◌-◌, ◌%◌, ◌^◌, ◌<◌, ◌≤◌, Bool, true, false, cond, eqb, leb, List, [], ◌∷◌, get_or, sym, refl, ap, ◌∙◌, arith}
+use Rattle.std.proofs.Common.{◌≡◌, ℕ, suc, ◌+◌, ◌-◌, ◌%◌, ◌^◌, ◌<◌, ◌≤◌, Bool, true, false, cond, eqb, leb, List, [], ◌∷◌, Some, get_or, sym, refl, ap, ◌∙◌, arith}
 use native.Mathlib.Nat.{mod-add-mod, add-mod-mod, add-mod_right}
 use borrow.Author.Tests.{eqb-false}
 use Rattle.sequence.specs.declared.kinds.Follows.{Follows}
 use Rattle.sequence.specs.declared.kinds.Follows.TheVariants.{Lost, Repeat, Late}
-use Rattle.sequence.specs.declared.kinds.Number.TheVariants.{Some}
 use Rattle.sequence.specs.Sequence.{step_from, told_by, kept, follows_all, losses, steps_of, last_of}
 
 never : {B : Type 0} → ◌≡◌ {A = ℕ} 0 1 → B

@@ -1,7 +1,5 @@
 -- Rules 12.5 to 12.8: what the numbers of records tell.
-use Rattle.std.specs.Prelude.{ℕ, ◌+◌, ◌-◌, ◌%◌, ◌^◌, cond, List, [], ◌∷◌, ◌==◌, nat_le}
-use Rattle.sequence.specs.declared.kinds.Number.{Number}
-use Rattle.sequence.specs.declared.kinds.Number.TheVariants.{None, Some}
+use Rattle.std.specs.Prelude.{ℕ, ◌+◌, ◌-◌, ◌%◌, ◌^◌, cond, List, [], ◌∷◌, Option, None, Some, ◌==◌, nat_le}
 use Rattle.sequence.specs.declared.kinds.Follows.{Follows}
 use Rattle.sequence.specs.declared.kinds.Follows.TheVariants.{Unnumbered, Lost, Repeat, Late}
 
@@ -14,23 +12,23 @@ abbrev pub told_by : ℕ → Follows
 told_by step = cond (step == 0) Repeat (cond (nat_le step 32768) (Lost (step - 1)) Late)
 
 -- Rule 12.6: a record after the previous number; where there is none yet, none were lost
-abbrev pub follows_from : Number → Number → Follows
+abbrev pub follows_from : Option ℕ → Option ℕ → Follows
 follows_from previous None = Unnumbered
 follows_from None (Some to) = Lost 0
 follows_from (Some from) (Some to) = told_by (step_from from to)
 
 -- Rule 12.7: which of two numbers is the previous one then, the one before or the record's own
-abbrev pub kept : Number → Number → Follows → Number
+abbrev pub kept : Option ℕ → Option ℕ → Follows → Option ℕ
 kept previous number Unnumbered = previous
 kept previous number (Lost n) = number
 kept previous number Repeat = number
 kept previous number Late = previous
 
-abbrev pub previous_after : Number → Number → Number
+abbrev pub previous_after : Option ℕ → Option ℕ → Option ℕ
 previous_after previous number = kept previous number (follows_from previous number)
 
 -- Rules 12.6 and 12.7: what the numbers of new records tell, one after the other
-unfoldable pub follows_all : Number → List ℕ → List Follows
+unfoldable pub follows_all : Option ℕ → List ℕ → List Follows
 follows_all previous [] = []
 follows_all previous (n ∷ numbers) = follows_from previous (Some n) ∷ follows_all (previous_after previous (Some n)) numbers
 

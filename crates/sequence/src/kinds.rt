@@ -1,11 +1,4 @@
-// What sequence numbers are, and what they tell.
-
-// A record's number, or the previous one, where there is any.
-#[derive(Clone, Copy)]
-pub enum Number {
-    None,
-    Some(u16),
-}
+// What sequence numbers tell. A record's number, or the previous one, is an `Option<u16>`: there may be none.
 
 // How a record follows (rule 12.6): so many lost before it, a repeat, or late. An old record has no number that could tell.
 #[derive(Clone, Copy)]
