@@ -4,13 +4,11 @@
 ghost use Rattle.std.specs.Prelude.{◌≡◌, ◌+◌, ◌≤◌, length, take, drop};
 ghost use Rattle.code.specs.Code.{positions};
 ghost use Rattle.golay.specs.Bytes.{word_of};
-ghost use Rattle.sequence.specs.declared.kinds.Number.TheVariants.{Some};
 ghost use Rattle.records.specs.Records.{twos_complement, confidence_of, confidences_of, stands_at, number_of, reading_of};
 
 use golay::wide;
 use records::kinds::Stands;
 use records::{OLD_RECORD, stands_at};
-use sequence::kinds::Number;
 
 // The 24 confidences.
 const READING: usize = 96;
@@ -58,33 +56,31 @@ pub fn confidences(bytes: &[u8], at: usize) -> [i32; 24]
 {
     match stands_at(bytes, at, true) {
         Stands::Record(next) => reading(bytes, next - READING),
-        Stands::End => [0i32; 24],
-        Stands::Stopped(_) => [0i32; 24],
+        Stands::End | Stands::Stopped(_) => [0i32; 24],
     }
 }
 
 // The number that two bytes from a place on hold.
-fn number_from(bytes: &[u8], from: usize) -> Number
+fn number_from(bytes: &[u8], from: usize) -> Option<u16>
     requires { from + 2 ≤ length bytes.now }
     ensures { result ≡ Some (word_of (take 2 (drop from bytes.now))) }
 {
     let a = wide(bytes[from]);
     let b = wide(bytes[from + 1]);
-    Number::Some((a * 0x100 + b) as u16)
+    Some((a * 0x100 + b) as u16)
 }
 
 // The number of the record at a place; none where it is an old one, or no whole record stands there.
-pub fn number(bytes: &[u8], at: usize) -> Number
+pub fn number(bytes: &[u8], at: usize) -> Option<u16>
     ensures { result ≡ number_of (stands_at bytes.now at) }
 {
     match stands_at(bytes, at, true) {
         Stands::Record(next) => {
             if next - at == OLD_RECORD {
-                return Number::None;
+                return None;
             }
             number_from(bytes, at + 2)
         }
-        Stands::End => Number::None,
-        Stands::Stopped(_) => Number::None,
+        Stands::End | Stands::Stopped(_) => None,
     }
 }

@@ -5,22 +5,22 @@ use mathlib.Core.Bool.{Bool, false, cond}
 use mathlib.Core.List.{List, [], ◌∷◌, ◌++◌, append_assoc, append-nil}
 use Prim.Native.Nat.{ℕ, zero, suc, ◌+◌, ◌-◌}
 use lib.ListN.{length, drop}
-use Rattle.sequence.specs.declared.kinds.Number.{Number}
+use Rattle.std.specs.Prelude.{Option}
 use Rattle.sequence.specs.Sequence.{previous_after}
 use Rattle.records.specs.Records.{Record, record_length, Standing, ended, stopped, whole, standing, in_piece}
 use Rattle.records.specs.Capture.{Telling, listed, run_at, run_in, run_from, Ending, ending}
 use Rattle.pieces.specs.Pieces.{going_on, turns_from}
 
 -- what goes on after a run: nothing where it stopped
-abbrev pub goes_on : {X : Type 0} → (Number → ℕ → List X) → Ending → List X
+abbrev pub goes_on : {X : Type 0} → (Option ℕ → ℕ → List X) → Ending → List X
 goes_on on e = cond e.stopped [] (on e.previous e.offset)
 
-module _ {X : Type 0} (ofRecord : Number → Record → List X) (ofStop : ℕ → Number → ℕ → List X) where
+module _ {X : Type 0} (ofRecord : Option ℕ → Record → List X) (ofStop : ℕ → Option ℕ → ℕ → List X) where
   abbrev t : Telling (List X)
   t = listed ofRecord ofStop
 
   run_goes :
-      (on : Number → ℕ → List X) (last : Bool) (fuel : ℕ) (previous : Number) (offset : ℕ) (left : List ℕ)
+      (on : Option ℕ → ℕ → List X) (last : Bool) (fuel : ℕ) (previous : Option ℕ) (offset : ℕ) (left : List ℕ)
       → run_in (going_on t on) last fuel previous offset left
       ≡ run_in t last fuel previous offset left ++ goes_on on (run_in ending last fuel previous offset left)
   unfolding run_in
@@ -47,7 +47,7 @@ module _ {X : Type 0} (ofRecord : Number → Record → List X) (ofStop : ℕ �
 
   -- a turn: what it tells, and where it did not stop the turns after it, from where it ended
   pub turns_go :
-      (previous : Number) (offset : ℕ) (held piece : List ℕ) (pieces : List (List ℕ))
+      (previous : Option ℕ) (offset : ℕ) (held piece : List ℕ) (pieces : List (List ℕ))
       → let bytes = held ++ piece in
       turns_from t previous offset held (piece ∷ pieces)
       ≡ run_from t false previous offset bytes

@@ -11,7 +11,7 @@ use lib.Dec.{leb}
 use lib.ListN.{length, take, drop, length-drop}
 use lib.Seq.{paste, take-add, drop_at, drop-drop, drop-append-le, length-take-le}
 use borrow.Author.Tests.{leb-true, leb-false}
-use Rattle.sequence.specs.declared.kinds.Number.{Number}
+use Rattle.std.specs.Prelude.{Option}
 use Rattle.sequence.specs.Sequence.{previous_after}
 use Rattle.texts.specs.Buffers.{put}
 use Rattle.texts.proofs.Buffers.{take_put}
@@ -71,15 +71,15 @@ keeps-once {from} {end} {held} {kept} {rest} {r} {s} K L = cases (leb from end) 
 module _ {A : Type 0} (t : Telling A) where
   -- a piece that begins at an offset, and what follows it
   module _ (bytes rest : List ℕ) (start : ℕ) where
-    abbrev on : Number → ℕ → A
+    abbrev on : Option ℕ → ℕ → A
     on previous offset = run_from t true previous offset (drop (offset - start) bytes ++ rest)
 
     -- the run over both is the run over the piece, which goes on where it ends with what it left and what follows
-    abbrev Goes : Number → ℕ → List ℕ → Type 0
+    abbrev Goes : Option ℕ → ℕ → List ℕ → Type 0
     Goes previous offset front = run_from t true previous offset (front ++ rest) ≡ run_from (going_on t on) false previous offset front
 
     one_more :
-        (previous : Number) (offset : ℕ) (front : List ℕ)
+        (previous : Option ℕ) (offset : ℕ) (front : List ℕ)
         → drop (offset - start) bytes ≡ front
         → ((r : Record) → standing front ≡ whole r → Goes (previous_after previous r.number) (offset + record_length r) (drop (record_length r) front))
         → Goes previous offset front
@@ -102,7 +102,7 @@ module _ {A : Type 0} (t : Telling A) where
             ∙ sym (run-whole u false previous offset front q)
 
     goes :
-        (fuel : ℕ) (previous : Number) (offset : ℕ) (front : List ℕ)
+        (fuel : ℕ) (previous : Option ℕ) (offset : ℕ) (front : List ℕ)
         → length front ≤ fuel
         → start ≤ offset
         → drop (offset - start) bytes ≡ front
@@ -118,13 +118,13 @@ module _ {A : Type 0} (t : Telling A) where
         goes fuel (previous_after previous r.number) (offset + n) (drop n front) (simp length-drop (omega (arith, k.0, k.1))) (omega arith)
         (ap (λ (k : ℕ). drop k bytes) (sym place) ∙ sym (drop-drop n (offset - start) bytes) ∙ ap (drop n) e))
 
-    pub piece_told : (previous : Number) → Goes previous start bytes
+    pub piece_told : (previous : Option ℕ) → Goes previous start bytes
     piece_told previous =
         let z : start - start ≡ 0 = omega arith in
         goes (length bytes) previous start bytes (omega arith) (omega arith) (ap (λ (k : ℕ). drop k bytes) z)
 
   pub pieces_told :
-      (previous : Number) (offset : ℕ) (held : List ℕ) (pieces : List (List ℕ))
+      (previous : Option ℕ) (offset : ℕ) (held : List ℕ) (pieces : List (List ℕ))
       → turns_from t previous offset held pieces ≡ run_from t true previous offset (held ++ all_pieces pieces)
   unfolding turns_from
   pieces_told previous offset held [] = ap (run_from t true previous offset) (sym (append-nil held))

@@ -1,6 +1,5 @@
 -- Rule 12.9: how a capture that comes in pieces is run through, turn by turn, whatever is told of its records.
-use Rattle.std.specs.Prelude.{◌≡◌, true, false, List, [], ◌∷◌, ◌++◌, ℕ, ◌-◌, ◌≤◌, length, take, drop}
-use Rattle.sequence.specs.declared.kinds.Number.{Number}
+use Rattle.std.specs.Prelude.{◌≡◌, true, false, List, [], ◌∷◌, ◌++◌, Option, ℕ, ◌-◌, ◌≤◌, length, take, drop}
 use Rattle.records.specs.Capture.{Telling, run_from}
 use Rattle.texts.specs.Buffers.{put}
 
@@ -22,12 +21,12 @@ all_pieces (piece ∷ pieces) = piece ++ all_pieces pieces
 
 module _ {A : Type 0} (t : Telling A) where
   -- a run that goes on where it ends, from its state there
-  abbrev pub going_on : (Number → ℕ → A) → Telling A
+  abbrev pub going_on : (Option ℕ → ℕ → A) → Telling A
   going_on on = record { at_end = on; at_stop = t.at_stop; at_record = t.at_record }
 
   -- all turns: each over what the one before left and the piece that a read brought; where it ends, the next goes on. At the end of the input,
   -- the run over what is left
-  unfoldable pub turns_from : Number → ℕ → List ℕ → List (List ℕ) → A
+  unfoldable pub turns_from : Option ℕ → ℕ → List ℕ → List (List ℕ) → A
   turns_from previous offset held [] = run_from t true previous offset held
   turns_from previous offset held (piece ∷ pieces) =
       let bytes = held ++ piece in

@@ -7,7 +7,7 @@ use Prim.Native.Nat.{ℕ, zero, suc, ◌+◌, ◌-◌, ◌≤◌, ◌<◌}
 use native.Mathlib.Omega.{arith}
 use lib.ListN.{length, drop, length-drop}
 use lib.Seq.{drop-drop}
-use Rattle.sequence.specs.declared.kinds.Number.{Number}
+use Rattle.std.specs.Prelude.{Option}
 use Rattle.sequence.specs.Sequence.{previous_after}
 use Rattle.records.specs.Records.{Record, new_length, length_with, record_length, Standing, ended, stopped, whole, standing, stands_at, in_piece, next_from, number_of}
 use Rattle.records.specs.Capture.{Telling, run_at, run_in, run_from, Ending, ending}
@@ -16,7 +16,7 @@ use Rattle.records.proofs.Standing.{held_by, whole_long, piece_whole, ended-shor
 module _ {A : Type 0} (t : Telling A) (last : Bool) where
   -- the run after a record counts only where a record stands
   later_same :
-      (previous : Number) (offset : ℕ) {f g : Record → A} (s : Standing Record)
+      (previous : Option ℕ) (offset : ℕ) {f g : Record → A} (s : Standing Record)
       → ((r : Record) → s ≡ whole r → f r ≡ g r)
       → run_at t last previous offset f s ≡ run_at t last previous offset g s
   later_same previous offset ended h = refl
@@ -24,7 +24,7 @@ module _ {A : Type 0} (t : Telling A) (last : Bool) where
   later_same previous offset (whole r) h = ap (t.at_record previous r) (h r refl)
 
   nothing_left :
-      (fuel : ℕ) (previous : Number) (offset : ℕ) (left : List ℕ)
+      (fuel : ℕ) (previous : Option ℕ) (offset : ℕ) (left : List ℕ)
       → length left ≤ 0
       → run_in t last fuel previous offset left ≡ t.at_end previous offset
   unfolding run_in standing
@@ -34,7 +34,7 @@ module _ {A : Type 0} (t : Telling A) (last : Bool) where
 
   -- more fuel than bytes changes nothing
   enough :
-      (m n : ℕ) (previous : Number) (offset : ℕ) (left : List ℕ)
+      (m n : ℕ) (previous : Option ℕ) (offset : ℕ) (left : List ℕ)
       → length left ≤ m
       → length left ≤ n
       → run_in t last m previous offset left ≡ run_in t last n previous offset left
@@ -50,10 +50,10 @@ module _ {A : Type 0} (t : Telling A) (last : Bool) where
       (simp length-drop (omega (arith, k.0, k.1))))
 
   -- the run after a record
-  abbrev after : Number → ℕ → List ℕ → Record → A
+  abbrev after : Option ℕ → ℕ → List ℕ → Record → A
   after previous offset left r = run_from t last (previous_after previous r.number) (offset + record_length r) (drop (record_length r) left)
 
-  module _ (previous : Number) (offset : ℕ) (left : List ℕ) where
+  module _ (previous : Option ℕ) (offset : ℕ) (left : List ℕ) where
     run-standing : run_from t last previous offset left ≡ run_at t last previous offset (after previous offset left) (in_piece last (standing left))
     unfolding run_in
     run-standing =
@@ -78,7 +78,7 @@ module _ {A : Type 0} (t : Telling A) (last : Bool) where
     run-whole e = run-standing ∙ ap (run_at t last previous offset (after previous offset left)) e
 
   -- by what `stands_at` says of a place, in bytes that begin at an offset
-  module _ (previous : Number) (offset : ℕ) (bytes : List ℕ) (at : ℕ) where
+  module _ (previous : Option ℕ) (offset : ℕ) (bytes : List ℕ) (at : ℕ) where
     pub told-ended :
         next_from at (in_piece last (stands_at bytes at)) ≡ ended
         → run_from t last previous (offset + at) (drop at bytes) ≡ t.at_end previous (offset + at)
@@ -111,7 +111,7 @@ module _ {A : Type 0} (t : Telling A) (last : Bool) where
 
 -- no run comes farther than its bytes
 end_within :
-    (last : Bool) (fuel : ℕ) (previous : Number) (offset : ℕ) (left : List ℕ)
+    (last : Bool) (fuel : ℕ) (previous : Option ℕ) (offset : ℕ) (left : List ℕ)
     → (run_in ending last fuel previous offset left).offset ≤ offset + length left
 unfolding run_in
 end_within last zero previous offset left = omega arith
@@ -133,12 +133,12 @@ end_within last (suc fuel) previous offset left =
         omega (arith, tail r, k.1, length-drop (record_length r) left)
 
 pub end_near :
-    (last : Bool) (previous : Number) (offset : ℕ) (left : List ℕ) → (run_from ending last previous offset left).offset ≤ offset + length left
+    (last : Bool) (previous : Option ℕ) (offset : ℕ) (left : List ℕ) → (run_from ending last previous offset left).offset ≤ offset + length left
 end_near last previous offset left = end_within last (length left) previous offset left
 
 -- a run over a piece that more may follow, where it did not stop, leaves less than a record
 left_within :
-    (fuel : ℕ) (previous : Number) (offset : ℕ) (left : List ℕ)
+    (fuel : ℕ) (previous : Option ℕ) (offset : ℕ) (left : List ℕ)
     → length left ≤ fuel
     → (run_in ending false fuel previous offset left).stopped ≡ false
     → offset + length left < (run_in ending false fuel previous offset left).offset + new_length
@@ -167,7 +167,7 @@ left_within (suc fuel) previous offset left h e =
         omega (arith, tail r (omega (arith, k.0, k.1, long)) e, k.0, k.1, long)
 
 pub left_short :
-    (previous : Number) (offset : ℕ) (left : List ℕ)
+    (previous : Option ℕ) (offset : ℕ) (left : List ℕ)
     → (run_from ending false previous offset left).stopped ≡ false
     → offset + length left < (run_from ending false previous offset left).offset + new_length
 left_short previous offset left = left_within (length left) previous offset left (omega arith)

@@ -10,9 +10,9 @@ use lib.Dec.{leb, eqb, lit<}
 use lib.ListN.{length, get_or, take, drop, length-append, length-drop}
 use lib.Seq.{get_or-drop, drop-drop, take-append-le, drop-append-le}
 use borrow.Author.Tests.{le-leb, lt-leb, leb-true, leb-false, eq-eqb, ne_eqb}
+use Rattle.std.specs.Prelude.{None, Some}
 use Rattle.code.specs.Code.{positions}
 use Rattle.golay.specs.Bytes.{word_of}
-use Rattle.sequence.specs.declared.kinds.Number.TheVariants.{None, Some}
 use Rattle.records.specs.Records.{is_old_mark, is_new_mark, Record, old_length, new_length, length_with, record_length, confidences_of, Standing, ended, stopped, whole, unfinished, standing, stands_at, in_piece, next_from, number_of, reading_of}
 
 -- a record of either kind, by the bytes after its mark

@@ -1,11 +1,9 @@
 -- Rules 12.1, 12.3 and 12.9: what stands at a record's start, as a function of the bytes that are left there.
-use Rattle.std.specs.Prelude.{Bool, true, false, cond, ◌&&◌, List, [], ◌∷◌, ℕ, zero, suc, ◌+◌, ◌^◌, leb, ltb, eqb, ℤ, pos, ◌-ℤ◌, length, take, drop, replicate}
+use Rattle.std.specs.Prelude.{Bool, true, false, cond, ◌&&◌, List, [], ◌∷◌, Option, None, Some, ℕ, zero, suc, ◌+◌, ◌^◌, leb, ltb, eqb, ℤ, pos, ◌-ℤ◌, length, take, drop, replicate}
 use Rattle.code.specs.Code.{positions}
 use Rattle.golay.specs.Refusals.{number}
 use Rattle.golay.specs.Bytes.{word_of}
 use Rattle.golay.specs.declared.kinds.Refusal.TheVariants.{NoMark, CutShort}
-use Rattle.sequence.specs.declared.kinds.Number.{Number}
-use Rattle.sequence.specs.declared.kinds.Number.TheVariants.{None, Some}
 use Rattle.records.specs.declared.kinds.Stands.{Stands}
 use Rattle.records.specs.declared.kinds.Stands.TheVariants as stands
 
@@ -18,7 +16,7 @@ is_new_mark a b = eqb a 0x49 && eqb b 0x44
 
 -- Rule 12.1: what a record holds: its number, where it is a new one, and its reading
 pub record Record : Type 0 where
-  pub number : Number
+  pub number : Option ℕ
   pub reading : List ℤ
 
 -- Rule 12.1: mark and confidences, and between them the number
@@ -28,7 +26,7 @@ old_length = 98
 abbrev pub new_length : ℕ
 new_length = 100
 
-abbrev pub length_with : Number → ℕ
+abbrev pub length_with : Option ℕ → ℕ
 length_with None = old_length
 length_with (Some n) = new_length
 
@@ -97,7 +95,7 @@ reading_of (stopped n) = replicate positions (pos 0)
 reading_of (whole r) = r.reading
 
 -- the number of a whole record
-abbrev pub number_of : Standing Record → Number
+abbrev pub number_of : Standing Record → Option ℕ
 number_of ended = None
 number_of (stopped n) = None
 number_of (whole r) = r.number
