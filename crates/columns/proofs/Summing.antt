@@ -17,8 +17,8 @@ use Rattle.signed.proofs.Bounds.{within-pos, within-add, within-sub}
 use Rattle.contest.specs.Readings.{correlation}
 use Rattle.classes.specs.Codewords.{in_positions}
 use Rattle.classes.specs.Classes.{column_sum}
-use Rattle.columns.specs.Columns.{PairOf, Narrow, SumAt, SumsUpTo, SumsWithin, place, Sums}
-use Rattle.columns.specs.declared.Pair.{Pair}
+use Rattle.columns.specs.Columns.{ColumnOf, SumAt, SumsUpTo, SumsWithin, place, Sums}
+use Rattle.columns.specs.declared.parts.Column.{Column}
 
 -- ---- four confidences, 0 for each that is missing
 
@@ -107,11 +107,14 @@ pub record Eight (xs : List ℤ) (i n : ℕ) (u d g h : ℤ) : Type 0 where
   pub odd-w : n ≡ 6 → SumAt xs (8 * i + n) (u -ℤ h)
   pub odd-v : n ≡ 7 → SumAt xs (8 * i + n) (u +ℤ h)
 
-module _ {xs : List ℤ} {upper lower : Pair} (i n : ℕ) (U : PairOf xs (4 * i) upper) (L : PairOf xs (4 * i + 2) lower) (NU : Narrow upper)
-    (NL : Narrow lower) where
-  pub eight : Eight xs i n upper.sum upper.difference lower.sum lower.difference
+module _ {xs : List ℤ} {t : Column} (i n : ℕ) (C : ColumnOf xs i t) where
+  pub eight : Eight xs i n t.upper.sum t.upper.difference t.lower.sum t.lower.difference
   unfolding column_sum
   eight =
+      let U = C.upper in
+      let L = C.lower in
+      let upper = t.upper in
+      let lower = t.lower in
       let a = get_or xs (4 * i) (pos 0) in
       let b = get_or xs (4 * i + 1) (pos 0) in
       let c = get_or xs (4 * i + 2) (pos 0) in
@@ -121,14 +124,14 @@ module _ {xs : List ℤ} {upper lower : Pair} (i n : ℕ) (U : PairOf xs (4 * i)
       let ld : lower.difference ≡ c -ℤ d = rw e at L.difference in
       let f = four xs (4 * i) in
       record {
-        even_0 = λ q. at_place i 0 0 n (lit< tt) (lit< tt) q (rw (U.sum, ls, f 0) (even_0 a b c d)) (within-add NU.sum NL.sum);
-        even_1 = λ q. at_place i 0 1 n (lit< tt) (lit< tt) q (rw (U.sum, ls, f 3) (even_1 a b c d)) (within-sub NU.sum NL.sum);
-        even_w = λ q. at_place i 0 2 n (lit< tt) (lit< tt) q (rw (U.difference, ld, f 5) (even_w a b c d)) (within-add NU.difference NL.difference);
-        even_v = λ q. at_place i 0 3 n (lit< tt) (lit< tt) q (rw (U.difference, ld, f 6) (even_v a b c d)) (within-sub NU.difference NL.difference);
-        odd_0 = λ q. at_place i 1 0 n (lit< tt) (lit< tt) q (rw (U.difference, ls, f 7) (odd_0 a b c d)) (within-sub NU.difference NL.sum);
-        odd_1 = λ q. at_place i 1 1 n (lit< tt) (lit< tt) q (rw (U.difference, ls, f 4) (odd_1 a b c d)) (within-add NU.difference NL.sum);
-        odd-w = λ q. at_place i 1 2 n (lit< tt) (lit< tt) q (rw (U.sum, ld, f 2) (odd-w a b c d)) (within-sub NU.sum NL.difference);
-        odd-v = λ q. at_place i 1 3 n (lit< tt) (lit< tt) q (rw (U.sum, ld, f 1) (odd-v a b c d)) (within-add NU.sum NL.difference);
+        even_0 = λ q. at_place i 0 0 n (lit< tt) (lit< tt) q (rw (U.sum, ls, f 0) (even_0 a b c d)) (within-add upper.narrow_sum lower.narrow_sum);
+        even_1 = λ q. at_place i 0 1 n (lit< tt) (lit< tt) q (rw (U.sum, ls, f 3) (even_1 a b c d)) (within-sub upper.narrow_sum lower.narrow_sum);
+        even_w = λ q. at_place i 0 2 n (lit< tt) (lit< tt) q (rw (U.difference, ld, f 5) (even_w a b c d)) (within-add upper.narrow_difference lower.narrow_difference);
+        even_v = λ q. at_place i 0 3 n (lit< tt) (lit< tt) q (rw (U.difference, ld, f 6) (even_v a b c d)) (within-sub upper.narrow_difference lower.narrow_difference);
+        odd_0 = λ q. at_place i 1 0 n (lit< tt) (lit< tt) q (rw (U.difference, ls, f 7) (odd_0 a b c d)) (within-sub upper.narrow_difference lower.narrow_sum);
+        odd_1 = λ q. at_place i 1 1 n (lit< tt) (lit< tt) q (rw (U.difference, ls, f 4) (odd_1 a b c d)) (within-add upper.narrow_difference lower.narrow_sum);
+        odd-w = λ q. at_place i 1 2 n (lit< tt) (lit< tt) q (rw (U.sum, ld, f 2) (odd-w a b c d)) (within-sub upper.narrow_sum lower.narrow_difference);
+        odd-v = λ q. at_place i 1 3 n (lit< tt) (lit< tt) q (rw (U.sum, ld, f 1) (odd-v a b c d)) (within-add upper.narrow_sum lower.narrow_difference);
       }
 
 -- ---- the array

@@ -3,17 +3,18 @@ use Rattle.std.specs.Prelude.{◌≡◌, cond, List, [], ◌∷◌, ℕ, zero, s
 use Rattle.signed.specs.Within.{Within}
 use Rattle.classes.specs.Classes.{column_sum, column_figure}
 use Rattle.columns.specs.Places.{Filled}
-use Rattle.columns.specs.declared.Pair.{Pair}
+use Rattle.columns.specs.declared.parts.Pair.{Pair}
+use Rattle.columns.specs.declared.parts.Column.{Column}
 
 -- the confidences at n and after it, added and subtracted
 pub record PairOf (xs : List ℤ) (n : ℕ) (t : Pair) : Type 0 where
   pub sum : t.sum ≡ get_or xs n (pos 0) +ℤ get_or xs (n + 1) (pos 0)
   pub difference : t.difference ≡ get_or xs n (pos 0) -ℤ get_or xs (n + 1) (pos 0)
 
--- both at most 2^32 in size
-pub record Narrow (t : Pair) : Type 0 where
-  pub sum : Within 4294967296 t.sum
-  pub difference : Within 4294967296 t.difference
+-- the two pairs of column i, counted from 0
+pub record ColumnOf (xs : List ℤ) (i : ℕ) (t : Column) : Type 0 where
+  pub upper : PairOf xs (4 * i) t.upper
+  pub lower : PairOf xs (4 * i + 2) t.lower
 
 -- Rule 8.3: z is the sum that belongs at place j
 pub record SumAt (xs : List ℤ) (j : ℕ) (z : ℤ) : Type 0 where

@@ -2,87 +2,37 @@
 // of them a class has: its parity, and its character in each column.
 #![tactic(auto)]
 
-ghost use Rattle.std.specs.Prelude.{ℕ, ◌+◌, ◌*◌, ◌<◌, ◌≡◌, List, ℤ, length, get_or};
+ghost use Rattle.std.specs.Prelude.{ℕ, ◌<◌, ◌≡◌, get_or};
 ghost use Rattle.contest.specs.Readings.{Reading};
 ghost use Rattle.code.specs.Code.{positions};
 ghost use Rattle.classes.specs.Classes.{characters_of};
-ghost use Rattle.columns.specs.Columns.{PairOf, Narrow, SumAt, Sums, SumsUpTo, front, column_at};
+ghost use Rattle.columns.specs.Columns.{SumsWithin, Sums, front, column_at};
+
+mod parts;
+
+use parts::Column;
 
 // A class is a number below this.
 pub const CLASSES: u32 = 128;
 
+// All 48 column sums of a reading, eight a column. No sum has a size above four times 2^31: so who takes them may add a few.
 #[derive(Clone, Copy)]
-struct Pair {
-    sum: i64,
-    difference: i64,
-}
-
-// The confidences at n and after it.
-fn pair_at(reading: &[i32], n: usize) -> Pair
-    requires { n < positions }
-    ensures pair_of { PairOf reading.now n result }
-    ensures narrow { Narrow result }
-{
-    let a = signed::widened(reading, n);
-    let b = signed::widened(reading, n + 1);
-    let sum = a + b;
-    let difference = a - b;
-    Pair {
-        sum: sum,
-        difference: difference,
-    }
-}
-
-// One of a column's eight sums, of its upper and its lower pair: even 0, 1, w, v, then odd 0, 1, w, v.
-fn sum_of(upper: Pair, lower: Pair, n: usize) -> i64
-    requires narrow { Narrow upper × Narrow lower }
-    requires n_bound { n < 8 }
-    ensures { (xs : List ℤ) (i : ℕ) → PairOf xs (4 * i) upper → PairOf xs (4 * i + 2) lower → SumAt xs (8 * i + n) result }
-{
-    let u = upper.sum;
-    let d = upper.difference;
-    let g = lower.sum;
-    let h = lower.difference;
-    match n {
-        0 => u + g,
-        1 => u - g,
-        2 => d + h,
-        3 => d - h,
-        4 => d - g,
-        5 => d + g,
-        6 => u - h,
-        _ => u + h,
-    }
-}
-
-// Puts in the eight sums of column i, of its upper and its lower pair.
-fn put_column(sums: &mut [i64; 48], i: usize, upper: Pair, lower: Pair)
-    requires i_bound { (i < 6) × (length sums.old ≡ 48) }
-    requires narrow { Narrow upper × Narrow lower }
-    ensures { (xs : List ℤ) → PairOf xs (4 * i) upper → PairOf xs (4 * i + 2) lower → SumsUpTo xs i sums.old → SumsUpTo xs (i + 1) sums.new }
-{
-    let mut n: usize = 0;
-    while n < 8 {
-        sums[8 * i + n] = sum_of(upper, lower, n);
-        n += 1;
-    }
+pub struct ColumnSums {
+    pub values: [i64; 48],
+    pub ghost within: { SumsWithin values },
 }
 
 // The sums of all six columns. Of a valid reading alone: so it is a proved fact of each caller that the check for the most negative number
 // stands before them.
-pub fn column_sums(reading: &[i32]) -> [i64; 48]
+pub fn column_sums(reading: &[i32]) -> ColumnSums
     requires { Reading 2147483647 positions reading.now }
-    ensures { Sums reading.now result }
+    ensures { Sums reading.now result.values }
 {
-    let mut sums: [i64; 48] = [0; 48];
-    let mut i: usize = 0;
-    while i < 6 {
-        let upper = pair_at(reading, 4 * i);
-        let lower = pair_at(reading, 4 * i + 2);
-        put_column(&mut sums, i, upper, lower);
-        i += 1;
+    let mut values: [i64; 48] = [0; 48];
+    for i in 0..6 {
+        Column::at(reading, i).put(&mut values, i);
     }
-    sums
+    ColumnSums { values }
 }
 
 // Products of characters, four in a row: by 0, by 1, by w, by v.
@@ -111,7 +61,5 @@ pub fn class_column(reading: &[i32], class: u32, i: usize) -> i64
     }
     let k = class as usize;
     let x = characters(k);
-    let upper = pair_at(reading, 4 * i);
-    let lower = pair_at(reading, 4 * i + 2);
-    sum_of(upper, lower, k / 64 % 2 * 4 + x[i])
+    Column::at(reading, i).sum_of(k / 64 % 2 * 4 + x[i])
 }

@@ -9,5 +9,5 @@ returns c =
     let xs = c.args.reading.now in
     let i = c.args.i in
     let x = c.characters-x in
-    let S = c.sum_of.ensures xs i c.pair_at-upper.ensures.pair_of c.pair_at-lower.ensures.pair_of in
+    let S = c.sum_of.ensures xs i c.at.ensures in
     reads S.bound (lit< tt) ∙ column_at-sum xs c.args.class i c.if-i-ge6.false x.result x.ensures.result_value (x.ensures.by_index i) S
