@@ -7,10 +7,11 @@ ghost use Rattle.signed.specs.Within.{Within};
 ghost use Rattle.contest.specs.Figures.{code};
 ghost use Rattle.contest.specs.Kept.{Kept, run};
 ghost use Rattle.classes.specs.Classes.{classes};
-ghost use Rattle.columns.specs.Columns.{SumsWithin, far};
+ghost use Rattle.columns.specs.Columns.{far};
 ghost use Rattle.pairs.specs.Pairs.{widest};
 ghost use Rattle.figures.specs.Figures.{Codes, middle_of, last_of, Table, Usable, FirstTwo, figure_from, figure_at, KeptUpTo, reached_from};
 
+use columns::ColumnSums;
 use contest::Keeper;
 use pairs::{pair_leasts, pair_sums};
 use signed::{bit, smaller};
@@ -40,15 +41,12 @@ fn coded(v: i64) -> u64
     8 * signed::size(v) + bit(signed::negative(v)) as u64
 }
 
-fn codes(sums: &[i64; 48]) -> [u64; 48]
-    requires { SumsWithin sums.now }
-    ensures { Codes sums.now result }
+fn codes(sums: &ColumnSums) -> [u64; 48]
+    ensures { Codes sums.now.values result }
 {
     let mut r: [u64; 48] = [0; 48];
-    let mut n: usize = 0;
-    while n < 48 {
-        r[n] = coded(sums[n]);
-        n += 1;
+    for (n, v) in sums.values.iter().enumerate() {
+        r[n] = coded(*v);
     }
     r
 }
@@ -120,8 +118,7 @@ fn largest_of(codes: &[u64; 48]) -> Keeper
         second: -9223372036854775808,
         at: 0,
     };
-    let mut q: u32 = 0;
-    while q < 32 {
+    for q in 0..32 {
         let i = q as usize;
         let x = codes[i / 4];
         let y = codes[8 + i / 16 * 4 + i % 4];
@@ -130,15 +127,13 @@ fn largest_of(codes: &[u64; 48]) -> Keeper
             least: smaller(x, y),
         };
         t = take_four(t, &sums, &leasts, &middle, &last, first, q);
-        q += 1;
     }
     t
 }
 
 // The two largest figures of the classes, and the class of the largest: the first of them where they share it.
-pub fn largest_figures(sums: &[i64; 48]) -> Keeper
-    requires { SumsWithin sums.now }
-    ensures { Kept (run (reached_from sums.now) classes) result }
+pub fn largest_figures(sums: &ColumnSums) -> Keeper
+    ensures { Kept (run (reached_from sums.now.values) classes) result }
 {
     let codes = codes(sums);
     largest_of(&codes)

@@ -17,4 +17,4 @@ loop-q-preserved c =
     let known : q < 32 = omega arith in
     let n : 4 * (q + 1) ≡ 4 * q + 4 = four_more q in
     let is = figure-from e q c.pair_sums-sums.ensures c.pair_leasts-leasts.ensures known c.smaller.ensures in
-    (omega arith, rw n (c.take_four-t.ensures (figure_at e) is c.loop-q.invariant.1))
+    rw n (c.take_four-t.ensures (figure_at e) is c.loop-q.invariant)

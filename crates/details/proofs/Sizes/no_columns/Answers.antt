@@ -2,7 +2,7 @@
 use Rattle.std.proofs.Common.{[], refl, arith}
 use Rattle.contest.proofs.Signs.{empty}
 use Rattle.columns.specs.Columns.{far}
-use Rattle.details.proofs.no_columns.Goals as goal
+use Rattle.details.proofs.Sizes.no_columns.Goals as goal
 
 pub returns : goal.returns
 returns c = record {
