@@ -1,28 +1,30 @@
--- The most negative number: a list has it exactly where some place does, and without it an i32 lies in the range of rule 6.3.
-use mathlib.Core.Path.{◌≡◌, refl, ap}
-use mathlib.Core.Logic.{◌≢◌}
-use mathlib.Core.Bool.{Bool, true, false, ◌||◌}
+-- The most negative number: a list has it exactly where some place does.
+use mathlib.Core.Path.{◌≡◌, refl, sym, ap}
+use mathlib.Core.Bool.{Bool, true, false, ◌||◌, true≢false}
 use mathlib.Core.List.{List, [], ◌∷◌}
-use Prim.Native.Nat.{ℕ, zero, suc, ◌≤◌, ◌<◌}
+use Prim.Native.Nat.{ℕ, zero, suc, ◌<◌}
 use native.Mathlib.Omega.{arith}
 use lib.IntN.{ℤ, pos, negsuc}
 use lib.ListN.{length, get_or}
 use borrow.Author.Tests.{ne_eqb}
-use mir.Syntax.{w32}
-use mir.Val.{SFits}
+use Rattle.std.specs.Bool.{MatchBool}
+use Rattle.std.specs.List.{HoldsAt, AllWithin}
 use Rattle.signed.specs.Within.{Within}
-use Rattle.signed.proofs.Locals.{fit_hi, fit_lo}
 use Rattle.contest.specs.Readings.{Reading}
+use Rattle.contest.proofs.Bounds.{at-range}
 use Rattle.reading.specs.Checks.{is_most_negative, most_negative, Checked}
 
 or-true : (b : Bool) → (b || true) ≡ true
 or-true true = refl
 or-true false = refl
 
+some-such : (xs : List ℤ) (k : ℕ) → k < length xs → is_most_negative (get_or xs k (pos 0)) ≡ true → most_negative xs ≡ true
+some-such [] k h e = absurd (omega arith)
+some-such (x ∷ xs) zero h e = rw e refl
+some-such (x ∷ xs) (suc k) h e = rw (some-such xs k (omega arith) e) (or-true (is_most_negative x))
+
 pub some-negative : (xs : List ℤ) (k : ℕ) → k < length xs → get_or xs k (pos 0) ≡ negsuc 2147483647 → most_negative xs ≡ true
-some-negative [] k h e = absurd (omega arith)
-some-negative (x ∷ xs) zero h e = rw e refl
-some-negative (x ∷ xs) (suc k) h e = rw (some-negative xs k (omega arith) e) (or-true (is_most_negative x))
+some-negative xs k h e = some-such xs k h (ap is_most_negative e)
 
 not_negative : (z : ℤ) → Within 2147483647 z → is_most_negative z ≡ false
 not_negative (pos n) w = refl
@@ -32,12 +34,12 @@ pub none-negative : (xs : List ℤ) → ((k : ℕ) → k < length xs → Within 
 none-negative [] w = refl
 none-negative (x ∷ xs) w = rw (not_negative x (w 0 (omega arith)), none-negative xs (λ k h. w (suc k) (omega arith))) refl
 
-pub in_range : (z : ℤ) → SFits w32 z → z ≢ negsuc 2147483647 → Within 2147483647 z
-in_range (pos n) f d = record { within = omega (arith, fit_hi f) }
-in_range (negsuc n) f d = record { within = go (fit_lo f) }
-  where
-    go : suc n ≤ 2147483648 → suc n ≤ 2147483647
-    go h = let g : n ≢ 2147483647 = λ e. d (ap negsuc e) in omega arith
+-- what is found by asking each one, where one that is passed lies in the range
+pub checked : (xs : List ℤ) (r : Bool) → MatchBool r ((k : ℕ) × (k < length xs) × HoldsAt (λ x. is_most_negative x ≡ true) xs k) (AllWithin (λ x. Within 2147483647 x) xs 0 (length xs)) → Checked xs r
+checked xs true (k, h, e) = record { is = sym (some-such xs k h (e (pos 0))); range = λ g. absurd (true≢false g) }
+checked xs false a =
+    let w : (k : ℕ) → k < length xs → Within 2147483647 (get_or xs k (pos 0)) = λ k h. a k (pos 0) (omega arith) h in
+    record { is = sym (none-negative xs w); range = λ g. at-range 2147483647 xs w }
 
 -- a reading of the right length in which none was found is a valid one
 pub checked_reading : (xs : List ℤ) (r : Bool) → length xs ≡ 24 → Checked xs r → r ≡ false → Reading 2147483647 24 xs

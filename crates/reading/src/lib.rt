@@ -1,18 +1,21 @@
 // A reading's check for the most negative number, before any confidence is negated.
 #![tactic(auto)]
 
-ghost use Rattle.reading.specs.Checks.{Checked};
+ghost use Rattle.std.specs.Prelude.{◌≡◌, false};
+ghost use Rattle.signed.specs.Within.{Within};
+ghost use Rattle.reading.specs.Checks.{is_most_negative, Checked};
 
-// Whether a confidence is the most negative number, whose opposite is no i32.
+// Whether a number is the most negative one, whose opposite is no i32.
+fn is_most_negative(x: i32) -> bool
+    ensures is { result ≡ is_most_negative x }
+    ensures range { result ≡ false → Within 2147483647 x }
+{
+    x == i32::MIN
+}
+
+// Whether a confidence is the most negative number.
 pub fn most_negative(reading: &[i32]) -> bool
     ensures { Checked reading.now result }
 {
-    let mut i: usize = 0;
-    while i < reading.len() {
-        if reading[i] == -2_147_483_648 {
-            return true;
-        }
-        i += 1;
-    }
-    false
+    reading.iter().any(|x| is_most_negative(*x))
 }
