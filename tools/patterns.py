@@ -5,12 +5,11 @@ several have that number, the least of them as a number; and the same patterns a
     tools/patterns.py patterns     prints crates/table/proofs/Table.antt
     tools/patterns.py stored       prints crates/table/proofs/Packed.antt
     tools/patterns.py source       prints crates/lookup/src/entries.rt
-    tools/patterns.py row_of       prints crates/lookup/proofs/entries/row_of/Answers.antt
     tools/patterns.py --write      writes all of them
     tools/patterns.py --check      compares all of them with what it would print; exit 1 where one differs
 
 All are printed in the layout of `rt fmt`. Nothing trusts this script: crates/table proves the rule of the lists that it prints, and
-crates/lookup that the source's rows are those of the second.
+crates/lookup that the source's numbers are those of the second.
 """
 
 import itertools
@@ -29,10 +28,6 @@ NONE = 31
 LOW = 16
 HIGH = 4
 TOGETHER = 4
-
-# The source has these numbers in rows, which one function picks from.
-ROW = 32
-ROWS = SYNDROMES // TOGETHER // ROW
 
 # a times b for the characters 0, 1, w, v, numbered 0 to 3
 PRODUCTS = ((0, 0, 0, 0), (0, 1, 2, 3), (0, 2, 3, 1), (0, 3, 1, 2))
@@ -111,47 +106,23 @@ def high_text(high):
 
 def filled(words):
     """As many of them in a line as `rt fmt` puts there."""
-    return ["        " + " ".join(words[start:start + 11]) for start in range(0, len(words), 11)]
+    return ["    " + " ".join(words[start:start + 12]) for start in range(0, len(words), 12)]
 
 
-def source_row(lows, highs, n):
-    """A row of the source's table. Rows are numbered in hexadecimal."""
-    part = slice(n * ROW, (n + 1) * ROW)
-    return (
-        [f"const ROW_{n:02X}: Row = Row {{", "    lows: ["]
-        + [f"        {low_text(low)}," for low in lows[part]]
-        + ["    ],", "    highs: ["]
-        + filled([f"{high_text(high)}," for high in highs[part]])
-        + ["    ],", "};", ""]
-    )
+def source_numbers(name, kind, lines):
+    """A const of the source."""
+    return [f"pub(crate) const {name}: [{kind}; {SYNDROMES // TOGETHER}] = ["] + lines + ["];"]
 
 
 def source(table):
     lows, highs = packed(table)
     lines = [
-        f"// The stored error pattern of each syndrome (rule 15.8), in rows of {ROW * TOGETHER}, and the row of a number. Printed by tools/patterns.py.",
-        "ghost use Rattle.std.specs.Prelude.{◌*◌, ◌<◌};",
-        "ghost use Rattle.patterns.specs.Positions.{AreStored};",
-        "",
-        "// Number k of each holds the entries 4 k to 4 k + 3, from the lowest bits up: their lowest 16 bits and their highest four.",
-        "#[derive(Drop)]",
-        "pub(crate) struct Row {",
-        f"    pub(crate) lows: [u64; {ROW}],",
-        f"    pub(crate) highs: [u16; {ROW}],",
-        "}",
-        "",
+        "// The stored error pattern of each syndrome (rule 15.8). Number k of each holds those of the syndromes 4 k to 4 k + 3, from the lowest bits up: their",
+        "// lowest 16 bits and their highest four. Printed by tools/patterns.py.",
     ]
-    for n in range(ROWS):
-        lines += source_row(lows, highs, n)
-    lines += [
-        "pub(crate) fn row_of(row: u32) -> Row",
-        f"    requires {{ row < {ROWS} }}",
-        f"    ensures {{ AreStored (row * {ROW * TOGETHER}) {ROW * TOGETHER} result.lows result.highs }}",
-        "{",
-        "    match row {",
-    ]
-    lines += [f"        {row} => ROW_{row:02X}," for row in range(ROWS - 1)]
-    lines += [f"        _ => ROW_{ROWS - 1:02X},", "    }", "}"]
+    lines += source_numbers("LOWS", "u64", [f"    {low_text(low)}," for low in lows])
+    lines += [""]
+    lines += source_numbers("HIGHS", "u16", filled([f"{high_text(high)}," for high in highs]))
     return "\n".join(lines) + "\n"
 
 
@@ -176,27 +147,10 @@ def stored_lists(table):
     return listed(comment, ("lows", [low_text(low) for low in lows], 4), ("highs", [high_text(high) for high in highs], 8))
 
 
-def row_proof(table):
-    """The answers of the function that picks a row: each arm's is one line, by one law."""
-    lines = [
-        "-- `lookup::entries::row_of` meets its contract: each arm's row is that part of the stored table. Printed by tools/patterns.py.",
-        "-- Assumes nothing.",
-        "use Rattle.std.proofs.Common.{arith}",
-        "use Rattle.table.proofs.Packed.{lows, highs}",
-        "use Rattle.lookup.proofs.Rows.{picked}",
-        "use Rattle.lookup.proofs.entries.row_of.Goals as goal",
-    ]
-    arms = [(f"returns-in-{row}", f"c.in-{row}.is") for row in range(ROWS - 1)] + [("returns-in_default", "(omega arith)")]
-    for row, (name, given) in enumerate(arms):
-        lines += ["", f"pub {name} : goal.{name}", "unfolding lows highs", f"{name} c = picked {row} {given} tt"]
-    return "\n".join(lines) + "\n"
-
-
 FILES = {
     "patterns": ("crates/table/proofs/Table.antt", patterns_list),
     "stored": ("crates/table/proofs/Packed.antt", stored_lists),
     "source": ("crates/lookup/src/entries.rt", source),
-    "row_of": ("crates/lookup/proofs/entries/row_of/Answers.antt", row_proof),
 }
 
 

@@ -16,24 +16,13 @@ fn entry_at(low: u64, high: u16, k: u32) -> u32
     ((high >> (k * 4)) % 16) as u32 * 65_536 + ((low >> (k * 16)) % 65_536) as u32
 }
 
-// The stored pattern of the syndrome in the lowest twelve bits of s. Where the compiler can tell which entries of a constant are read, the
-// constant becomes a table in the program's text; an index that the program computes makes it write the constant to the stack at each use. So a
-// loop, which the compiler lays out turn by turn, passes all numbers of the row and keeps the two that hold the entry.
+// The stored pattern of the syndrome in the lowest twelve bits of s.
 pub fn entry(s: u32) -> u32
     ensures { Stored (s % syndromes) result }
 {
-    let row = entries::row_of(s / 128 % 32);
-    let at = (s / 4 % 32) as usize;
-    let mut low: u64 = 0;
-    let mut high: u16 = 0;
-    let mut i: usize = 0;
-    while i < 32 {
-        if i == at {
-            low = row.lows[i];
-            high = row.highs[i];
-        }
-        i += 1;
-    }
+    let at = (s / 4 % 1_024) as usize;
+    let low = entries::LOWS[at];
+    let high = entries::HIGHS[at];
     entry_at(low, high, s % 4)
 }
 
