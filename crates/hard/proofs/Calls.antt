@@ -2,17 +2,13 @@
 -- Assumes nothing.
 use mathlib.Core.Path.{◌≡◌, sym, ap, ◌∙◌}
 use Prim.Native.Nat.{ℕ, ◌<◌}
-use native.Mathlib.Omega.{arith}
 use lib.Bits.{bit_xor}
 use Rattle.code.specs.Code.{words}
-use Rattle.golay.specs.declared.kinds.Refusal.{Refusal}
 use Rattle.golay.specs.Answers.{accepted, refused}
-use Rattle.hard.specs.declared.kinds.ApplyAnswer.{ApplyAnswer}
-use Rattle.hard.specs.declared.kinds.ApplyAnswer.TheVariants as apply
-use Rattle.hard.specs.Answers.{apply_answer}
+use Rattle.golay.specs.Calls.{syndrome_rule}
 use Rattle.hard.specs.Calls.{Finds, apply_rule, Corrects}
 use Rattle.hard.proofs.Rules.{find_above, find-within, apply-within, correct_above, correct-four, correct_nearer}
-use Rattle.hard.proofs.Found.{Above, Found, pattern_for, pattern_for_rule}
+use Rattle.hard.proofs.Found.{syndrome-refused, Above, Found, finds_refusal, pattern_for, pattern_for_rule}
 
 pub finds_above : {word n : ℕ} → Above word n → Finds word (refused n)
 finds_above {word} a = record {
@@ -21,12 +17,19 @@ finds_above {word} a = record {
   answered = ap refused a.number ∙ sym (find_above word (pattern_for word) a.high);
 }
 
+-- what golay refuses, finding refuses, and what finding refuses, correction
+pub finds_refused : {word n : ℕ} → refused n ≡ syndrome_rule word → Finds word (refused n)
+finds_refused rule = finds_above (syndrome-refused rule)
+
 pub corrects_above : {word n : ℕ} → Above word n → Corrects word (refused n)
 corrects_above {word} a = record {
   pattern = pattern_for word;
   rule = pattern_for_rule word;
   answered = ap refused a.number ∙ sym (correct_above word (pattern_for word) a.high);
 }
+
+pub corrects_refused : {word n : ℕ} → Finds word (refused n) → Corrects word (refused n)
+corrects_refused f = corrects_above (finds_refusal f)
 
 module _ {word p n : ℕ} (f : Found word p n) where
   pub finds_found : Finds word (accepted (record { pattern = p; distance = n }))
@@ -51,11 +54,9 @@ module _ {word p n : ℕ} (f : Found word p n) where
   }
 
 -- where both are words, applying is not refused
-module _ {word p : ℕ} (h : word < words) (g : p < words) {answer : ApplyAnswer} (rule : apply_answer answer ≡ apply_rule word p) where
-  pub applied : {v : ℕ} → answer ≡ apply.Accepted v → v ≡ bit_xor word p
-  applied e = cc (sym (ap apply_answer e) ∙ rule ∙ apply-within word p h g)
+module _ {word p : ℕ} (h : word < words) (g : p < words) where
+  pub applied : {v : ℕ} → accepted v ≡ apply_rule word p → v ≡ bit_xor word p
+  applied rule = cc (rule, apply-within word p h g)
 
-  pub not-refused : {reason : Refusal} → answer ≡ apply.Refused reason → ⊥
-  not-refused e =
-      let z : ◌≡◌ {A = ℕ} 0 1 = cc (sym (ap apply_answer e) ∙ rule ∙ apply-within word p h g) in
-      omega arith
+  pub not-refused : {n : ℕ} → refused n ≡ apply_rule word p → ⊥
+  not-refused rule = cc (rule, apply-within word p h g)

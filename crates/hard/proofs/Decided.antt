@@ -2,15 +2,13 @@
 -- Assumes nothing.
 use mathlib.Core.Path.{◌≡◌, refl, sym, ap, ◌∙◌}
 use Prim.Native.Nat.{ℕ}
-use Rattle.golay.specs.Answers.{Answer, accepted, refused}
-use Rattle.golay.proofs.Decided.{said_once, reason, reason_number}
+use Rattle.std.specs.Prelude.{Result}
+use Rattle.golay.specs.declared.kinds.Refusal.{Refusal}
+use Rattle.golay.specs.Answers.{Answer}
+use Rattle.golay.proofs.Decided.{answer-once}
 use Rattle.patterns.proofs.Patterns.{pattern_unique}
-use Rattle.hard.specs.declared.kinds.FindAnswer.{FindAnswer}
-use Rattle.hard.specs.declared.kinds.FindAnswer.TheVariants as find
-use Rattle.hard.specs.declared.kinds.ApplyAnswer.{ApplyAnswer}
-use Rattle.hard.specs.declared.kinds.ApplyAnswer.TheVariants as apply
-use Rattle.hard.specs.declared.kinds.CorrectAnswer.{CorrectAnswer}
-use Rattle.hard.specs.declared.kinds.CorrectAnswer.TheVariants as correct
+use Rattle.hard.specs.declared.kinds.Found.{Found}
+use Rattle.hard.specs.declared.kinds.Corrected.{Corrected}
 use Rattle.hard.specs.Answers.{Finding, find_answer, apply_answer, Correction, correct_answer}
 use Rattle.hard.specs.Calls.{find_rule, Finds, apply_rule, correct_rule, Corrects}
 
@@ -20,42 +18,20 @@ find-once word a b p q = p.answered ∙ ap (find_rule word) (pattern_unique p.ru
 pub correct-once : (word : ℕ) (a b : Answer Correction) → Corrects word a → Corrects word b → a ≡ b
 correct-once word a b p q = p.answered ∙ ap (correct_rule word) (pattern_unique p.rule q.rule) ∙ sym q.answered
 
--- ---- of the calls' own answers, which are made again from what they stand for
+-- ---- of the calls' own answers
 
-find_again : Answer Finding → FindAnswer
-find_again (accepted x) = find.Accepted (record { 0 = x.pattern }) x.distance
-find_again (refused n) = find.Refused (reason n)
-
-find_back : (r : FindAnswer) → find_again (find_answer r) ≡ r
-unfolding find_again
-find_back (find.Accepted p d) = refl
-find_back (find.Refused r) = ap find.Refused (reason_number r)
-
-pub find-decided : (word : ℕ) (x y : FindAnswer) → Finds word (find_answer x) → Finds word (find_answer y) → x ≡ y
-find-decided word x y p q = said_once find_answer find_again find_back x y (find-once word (find_answer x) (find_answer y) p q) refl
-
-apply_again : Answer ℕ → ApplyAnswer
-apply_again (accepted x) = apply.Accepted x
-apply_again (refused n) = apply.Refused (reason n)
-
-apply_back : (r : ApplyAnswer) → apply_again (apply_answer r) ≡ r
-unfolding apply_again
-apply_back (apply.Accepted x) = refl
-apply_back (apply.Refused r) = ap apply.Refused (reason_number r)
+pub find-decided : (word : ℕ) (x y : Result Found Refusal) → Finds word (find_answer x) → Finds word (find_answer y) → x ≡ y
+find-decided word x y p q =
+    answer-once (λ found. record { pattern = found.pattern.0; distance = found.distance })
+    (λ (v : Finding). record { pattern = record { 0 = v.pattern }; distance = v.distance })
+    (λ found. refl) x y (find-once word (find_answer x) (find_answer y) p q) refl
 
 pub apply-decided :
-    (word pattern : ℕ) (x y : ApplyAnswer) → apply_answer x ≡ apply_rule word pattern → apply_answer y ≡ apply_rule word pattern → x ≡ y
-apply-decided word pattern x y = said_once apply_answer apply_again apply_back x y
+    (word pattern : ℕ) (x y : Result ℕ Refusal) → apply_answer x ≡ apply_rule word pattern → apply_answer y ≡ apply_rule word pattern → x ≡ y
+apply-decided word pattern = answer-once (λ n. n) (λ n. n) (λ n. refl)
 
-correct_again : Answer Correction → CorrectAnswer
-correct_again (accepted c) = correct.Accepted (record { 0 = c.codeword }) c.distance
-correct_again (refused n) = correct.Refused (reason n)
-
-correct_back : (r : CorrectAnswer) → correct_again (correct_answer r) ≡ r
-unfolding correct_again
-correct_back (correct.Accepted c d) = refl
-correct_back (correct.Refused r) = ap correct.Refused (reason_number r)
-
-pub correct-decided : (word : ℕ) (x y : CorrectAnswer) → Corrects word (correct_answer x) → Corrects word (correct_answer y) → x ≡ y
+pub correct-decided : (word : ℕ) (x y : Result Corrected Refusal) → Corrects word (correct_answer x) → Corrects word (correct_answer y) → x ≡ y
 correct-decided word x y p q =
-    said_once correct_answer correct_again correct_back x y (correct-once word (correct_answer x) (correct_answer y) p q) refl
+    answer-once (λ c. record { codeword = c.codeword.0; distance = c.distance })
+    (λ (v : Correction). record { codeword = record { 0 = v.codeword }; distance = v.distance })
+    (λ c. refl) x y (correct-once word (correct_answer x) (correct_answer y) p q) refl

@@ -5,18 +5,12 @@ use mathlib.Core.Path.{◌≡◌, refl, sym, ap, ◌∙◌, subst, subst₂}
 use mathlib.Core.Logic.{⊎_elim}
 use Prim.Native.Nat.{ℕ, ◌%◌, ◌≤◌, ◌<◌}
 use native.Mathlib.Nat.{mod-eq_of_lt}
-use native.Mathlib.Omega.{arith}
 use lib.ListN.{get_or}
 use Rattle.binary.specs.Words.{ones}
 use Rattle.binary.proofs.Places.{le_or_lt}
 use Rattle.code.specs.Code.{words, syndromes, syndrome_of}
 use Rattle.code.proofs.Syndromes.{syndrome_lt}
-use Rattle.golay.specs.declared.kinds.Refusal.{Refusal}
-use Rattle.golay.specs.declared.kinds.Syndrome.{Syndrome}
-use Rattle.golay.specs.declared.kinds.SyndromeAnswer.{SyndromeAnswer}
-use Rattle.golay.specs.declared.kinds.SyndromeAnswer.TheVariants.{Accepted, Refused}
-use Rattle.golay.specs.Refusals.{number}
-use Rattle.golay.specs.Answers.{accepted, refused, syndrome_answer}
+use Rattle.golay.specs.Answers.{accepted, refused}
 use Rattle.golay.specs.Calls.{syndrome_rule}
 use Rattle.golay.proofs.Rules.{syndrome_above, syndrome-within}
 use Rattle.patterns.specs.Patterns.{IsPattern}
@@ -24,10 +18,7 @@ use Rattle.patterns.specs.Positions.{spread, fields, held, Stored}
 use Rattle.patterns.proofs.Positions.{stored_ones}
 use Rattle.table.proofs.Table.{table}
 use Rattle.table.proofs.Entries.{table-pattern}
-use Rattle.hard.specs.declared.kinds.Pattern.{Pattern}
-use Rattle.hard.specs.declared.kinds.FindAnswer.{FindAnswer}
-use Rattle.hard.specs.declared.kinds.FindAnswer.TheVariants as find
-use Rattle.hard.specs.Answers.{Finding, find_answer}
+use Rattle.hard.specs.Answers.{Finding}
 use Rattle.hard.specs.Calls.{Finds}
 use Rattle.hard.proofs.Rules.{find_above, find-within}
 
@@ -39,21 +30,20 @@ pub record Above (word n : ℕ) : Type 0 where
   pub high : words ≤ word
   pub number : n ≡ 4
 
-module _ (word : ℕ) {answer : SyndromeAnswer} (rule : syndrome_answer answer ≡ syndrome_rule word) where
-  pub syndrome-accepted : {s : Syndrome} → answer ≡ Accepted s → Within word s.0
-  syndrome-accepted {s} e =
-      let a : accepted s.0 ≡ syndrome_rule word = sym (ap syndrome_answer e) ∙ rule in
+-- what golay's answer says of the word
+module _ {word : ℕ} where
+  pub syndrome-accepted : {s : ℕ} → accepted s ≡ syndrome_rule word → Within word s
+  syndrome-accepted a =
       ⊎_elim
-      (λ h. let z : ◌≡◌ {A = ℕ} 0 1 = cc (a, syndrome_above word h) in let f : ⊥ = omega arith in absurd f)
+      (λ h. absurd (cc (a, syndrome_above word h)))
       (λ h. record { low = h; syndrome = cc (a, syndrome-within word h) })
       (le_or_lt words word)
 
-  pub syndrome-refused : {reason : Refusal} → answer ≡ Refused reason → Above word (number reason)
-  syndrome-refused {reason} e =
-      let a : refused (number reason) ≡ syndrome_rule word = sym (ap syndrome_answer e) ∙ rule in
+  pub syndrome-refused : {n : ℕ} → refused n ≡ syndrome_rule word → Above word n
+  syndrome-refused a =
       ⊎_elim
       (λ h. record { high = h; number = cc (a, syndrome_above word h) })
-      (λ h. let z : ◌≡◌ {A = ℕ} 0 1 = cc (a, syndrome-within word h) in let f : ⊥ = omega arith in absurd f)
+      (λ h. absurd (cc (a, syndrome-within word h)))
       (le_or_lt words word)
 
 pub within_lt : {word s : ℕ} → Within word s → s < syndromes
@@ -78,7 +68,7 @@ module _ {word : ℕ} where
   pub finds_answer : {x : Finding} → Finds word (accepted x) → Found word x.pattern x.distance
   finds_answer {x} f =
       ⊎_elim
-      (λ h. let z : ◌≡◌ {A = ℕ} 0 1 = cc (f.answered, find_above word f.pattern h) in let g : ⊥ = omega arith in absurd g)
+      (λ h. absurd (cc (f.answered, find_above word f.pattern h)))
       (λ h.
       let same : x ≡ record { pattern = f.pattern; distance = ones 24 f.pattern } = cc (f.answered, find-within word f.pattern h) in
       subst (λ (y : Finding). Found word y.pattern y.distance) (sym same) (record { low = h; rule = f.rule; count = refl }))
@@ -88,15 +78,8 @@ module _ {word : ℕ} where
   finds_refusal f =
       ⊎_elim
       (λ h. record { high = h; number = cc (f.answered, find_above word f.pattern h) })
-      (λ h. let z : ◌≡◌ {A = ℕ} 0 1 = cc (f.answered, find-within word f.pattern h) in let g : ⊥ = omega arith in absurd g)
+      (λ h. absurd (cc (f.answered, find-within word f.pattern h)))
       (le_or_lt words word)
-
-  module _ {answer : FindAnswer} (finds : Finds word (find_answer answer)) where
-    pub find-accepted : {p : Pattern} {d : ℕ} → answer ≡ find.Accepted p d → Found word p.0 d
-    find-accepted e = finds_answer (subst (λ a. Finds word (find_answer a)) e finds)
-
-    pub find-refused : {reason : Refusal} → answer ≡ find.Refused reason → Above word (number reason)
-    find-refused e = finds_refusal (subst (λ a. Finds word (find_answer a)) e finds)
 
 -- any word's syndrome has a pattern, also where the word is above the range
 module _ (word : ℕ) where

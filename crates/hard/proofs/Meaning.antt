@@ -43,7 +43,7 @@ way word p r =
 
 -- an answer is no refusal
 pub no_answer : {A : Type 0} {a : A} {n : ℕ} → ◌≡◌ {A = Answer A} (accepted a) (refused n) → ⊥
-no_answer e = let z : ◌≡◌ {A = ℕ} 0 1 = cc in omega arith
+no_answer e = cc
 
 -- Rule 5.5: what is answered is a nearest codeword and its distance, and no second codeword is as near
 pub record Corrected (word : ℕ) (c : Correction) : Type 0 where
@@ -95,6 +95,6 @@ pub correct_seven : {word : ℕ} → Corrects word (refused 7) → (c : ℕ) →
 correct_seven {word} p c g t = by (way word p.pattern p.rule)
   where
     by : Way word p.pattern → 4 ≤ distance 24 word c
-    by (above h e) = let z : ◌≡◌ {A = ℕ} 7 4 = cc (p.answered, e) in let f : ⊥ = omega arith in absurd f
+    by (above h e) = absurd (cc (p.answered, e))
     by (four h o e) = subst (λ (x : ℕ). x ≤ distance 24 word c) o ((pattern_nearest word p.pattern h p.rule).least c g t)
     by (nearer h o e) = absurd (no_answer (sym (p.answered ∙ e)))

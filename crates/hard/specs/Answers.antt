@@ -1,13 +1,9 @@
 -- Rule 15.5: the answers of the calls, by their values or the number of a refusal.
-use Rattle.std.specs.Prelude.{ℕ}
-use Rattle.golay.specs.Refusals.{number}
-use Rattle.golay.specs.Answers.{Answer, accepted, refused}
-use Rattle.hard.specs.declared.kinds.FindAnswer.{FindAnswer}
-use Rattle.hard.specs.declared.kinds.FindAnswer.TheVariants as find
-use Rattle.hard.specs.declared.kinds.ApplyAnswer.{ApplyAnswer}
-use Rattle.hard.specs.declared.kinds.ApplyAnswer.TheVariants as apply
-use Rattle.hard.specs.declared.kinds.CorrectAnswer.{CorrectAnswer}
-use Rattle.hard.specs.declared.kinds.CorrectAnswer.TheVariants as correct
+use Rattle.std.specs.Prelude.{ℕ, Result}
+use Rattle.golay.specs.declared.kinds.Refusal.{Refusal}
+use Rattle.golay.specs.Answers.{Answer, answer_of}
+use Rattle.hard.specs.declared.kinds.Found.{Found}
+use Rattle.hard.specs.declared.kinds.Corrected.{Corrected}
 
 -- Rule 5.10: the error pattern of a word's syndrome, and how far the word is from the code
 pub record Finding : Type 0 where
@@ -20,16 +16,13 @@ pub record Correction : Type 0 where
   pub distance : ℕ
 
 -- Rule 15.5: pattern and distance, or the number
-abbrev pub find_answer : FindAnswer → Answer Finding
-find_answer (find.Accepted p d) = accepted (record { pattern = p.0; distance = d })
-find_answer (find.Refused reason) = refused (number reason)
+abbrev pub find_answer : Result Found Refusal → Answer Finding
+find_answer r = answer_of (λ found. record { pattern = found.pattern.0; distance = found.distance }) r
 
 -- Rule 15.5: a word, or the number
-abbrev pub apply_answer : ApplyAnswer → Answer ℕ
-apply_answer (apply.Accepted word) = accepted word
-apply_answer (apply.Refused reason) = refused (number reason)
+abbrev pub apply_answer : Result ℕ Refusal → Answer ℕ
+apply_answer r = answer_of (λ word. word) r
 
 -- Rule 15.5: codeword and distance, or the number
-abbrev pub correct_answer : CorrectAnswer → Answer Correction
-correct_answer (correct.Accepted c d) = accepted (record { codeword = c.0; distance = d })
-correct_answer (correct.Refused reason) = refused (number reason)
+abbrev pub correct_answer : Result Corrected Refusal → Answer Correction
+correct_answer r = answer_of (λ c. record { codeword = c.codeword.0; distance = c.distance }) r

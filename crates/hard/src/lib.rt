@@ -9,50 +9,43 @@ ghost use Rattle.hard.specs.Calls.{Finds, apply_rule, Corrects};
 pub mod kinds;
 
 use golay::WORDS;
-use golay::kinds::{Codeword, Refusal, SyndromeAnswer};
-use kinds::{ApplyAnswer, CorrectAnswer, FindAnswer, Pattern};
+use golay::kinds::{Codeword, Refusal};
+use kinds::{Corrected, Found, Pattern};
 
 // The error pattern of a word's syndrome and the word's distance from the code, 0 to 4. Refuses 4.
-pub fn find(word: u32) -> FindAnswer
+pub fn find(word: u32) -> Result<Found, Refusal>
     ensures { Finds word (find_answer result) }
 {
-    match golay::syndrome(word) {
-        SyndromeAnswer::Refused(reason) => FindAnswer::Refused(reason),
-        SyndromeAnswer::Accepted(s) => {
-            let entry = lookup::entry(s.0);
-            FindAnswer::Accepted(Pattern(patterns::spread(entry)), patterns::held(entry))
-        }
-    }
+    let syndrome = golay::syndrome(word)?;
+    let entry = lookup::entry(syndrome.0);
+    Ok(Found {
+        pattern: Pattern(patterns::spread(entry)),
+        distance: patterns::held(entry),
+    })
 }
 
 // The exclusive or of a word and a pattern. Refuses 4 for either.
-pub fn apply(word: u32, pattern: Pattern) -> ApplyAnswer
+pub fn apply(word: u32, pattern: Pattern) -> Result<u32, Refusal>
     ensures { apply_answer result ≡ apply_rule word pattern.0 }
 {
     let error = pattern.0;
     if word >= WORDS {
-        return ApplyAnswer::Refused(Refusal::WordAbove);
+        return Err(Refusal::WordAbove);
     }
     if error >= WORDS {
-        return ApplyAnswer::Refused(Refusal::WordAbove);
+        return Err(Refusal::WordAbove);
     }
-    ApplyAnswer::Accepted(word ^ error)
+    Ok(word ^ error)
 }
 
 // The codeword nearest to a word and its distance, 0 to 3. Refuses 4, then 7.
-pub fn correct(word: u32) -> CorrectAnswer
+pub fn correct(word: u32) -> Result<Corrected, Refusal>
     ensures { Corrects word (correct_answer result) }
 {
-    match find(word) {
-        FindAnswer::Refused(reason) => CorrectAnswer::Refused(reason),
-        FindAnswer::Accepted(pattern, distance) => {
-            if distance == 4 {
-                return CorrectAnswer::Refused(Refusal::DistanceFour);
-            }
-            match apply(word, pattern) {
-                ApplyAnswer::Refused(reason) => CorrectAnswer::Refused(reason),
-                ApplyAnswer::Accepted(c) => CorrectAnswer::Accepted(Codeword(c), distance),
-            }
-        }
+    let Found { pattern, distance } = find(word)?;
+    if distance == 4 {
+        return Err(Refusal::DistanceFour);
     }
+    let codeword = Codeword(apply(word, pattern)?);
+    Ok(Corrected { codeword, distance })
 }
