@@ -3,45 +3,35 @@
 #![tactic(auto)]
 
 ghost use Rattle.std.specs.Prelude.{ℕ, ◌+◌, ◌≤◌, min, get_or};
-ghost use Rattle.pairs.specs.Pairs.{widest, Pairs};
+ghost use Rattle.pairs.specs.Pairs.{widest, Pairs, PairsBy};
 
 use signed::smaller;
 
-// The codes of columns 3 and 4, then of 5 and 6, added: for each parity, each character of the first and each of the second.
+// The codes of columns 3 and 4, then of 5 and 6, by a rule for two codes: for each parity, each character of the first and each of the second.
+fn pairs_by<F: Fn(u64, u64) -> u64>(codes: &[u64; 48], rule: F) -> [u64; 64]
+    requires { (i k : ℕ) → F.pre rule (get_or codes.now i 0) (get_or codes.now k 0) }
+    ensures { PairsBy (F.post rule) codes.now result }
+{
+    let mut pairs = [0; 64];
+    for j in 0..64 {
+        let first = 16 + j / 32 * 16 + j % 32 / 4;
+        let second = 24 + j / 32 * 16 + j % 32 / 16 * 4 + j % 4;
+        pairs[j] = rule(codes[first], codes[second]);
+    }
+    pairs
+}
+
+// The codes added.
 pub fn pair_sums(codes: &[u64; 48]) -> [u64; 64]
     requires { (j : ℕ) → get_or codes.now j 0 ≤ widest }
     ensures { Pairs ◌+◌ codes.now result }
 {
-    let mut r: [u64; 64] = [0; 64];
-    let mut q: usize = 0;
-    while q < 16 {
-        let x = codes[16 + q / 8 * 16 + q % 8];
-        let i = 24 + q / 8 * 16 + q % 8 / 4 * 4;
-        let n = 4 * q;
-        r[n] = x + codes[i];
-        r[n + 1] = x + codes[i + 1];
-        r[n + 2] = x + codes[i + 2];
-        r[n + 3] = x + codes[i + 3];
-        q += 1;
-    }
-    r
+    pairs_by(codes, |x, y| x + y)
 }
 
 // The smaller of the two, in the same places.
 pub fn pair_leasts(codes: &[u64; 48]) -> [u64; 64]
     ensures { Pairs min codes.now result }
 {
-    let mut r: [u64; 64] = [0; 64];
-    let mut q: usize = 0;
-    while q < 16 {
-        let x = codes[16 + q / 8 * 16 + q % 8];
-        let i = 24 + q / 8 * 16 + q % 8 / 4 * 4;
-        let n = 4 * q;
-        r[n] = smaller(x, codes[i]);
-        r[n + 1] = smaller(x, codes[i + 1]);
-        r[n + 2] = smaller(x, codes[i + 2]);
-        r[n + 3] = smaller(x, codes[i + 3]);
-        q += 1;
-    }
-    r
+    pairs_by(codes, smaller)
 }
