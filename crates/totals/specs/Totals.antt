@@ -1,9 +1,10 @@
 -- Rules 18.1 to 18.3: a tally with its table; and what one more answer of the soft decoder makes of a tally.
-use Rattle.std.specs.Prelude.{Bool, cond, ◌||◌, List, ℕ, ◌+◌, eqb, ltb, replicate}
+use Rattle.std.specs.Prelude.{Bool, cond, ◌||◌, List, ℕ, ◌+◌, eqb, ltb, replicate, Result, Ok, Err}
 use Rattle.code.specs.Code.{messages}
+use Rattle.golay.specs.declared.kinds.Refusal.{Refusal}
 use Rattle.golay.specs.declared.kinds.Refusal.TheVariants.{MostNegative, Tied, CountFull}
 use Rattle.golay.specs.Refusals.{number}
-use Rattle.golay.specs.Answers.{Answer, accepted, refused, refuse}
+use Rattle.golay.specs.Answers.{Answer, accepted, refused, refuse, answer_of}
 use Rattle.totals.specs.declared.kinds.Tally.{Tally}
 
 -- Rule 18.1: a tally and its table
@@ -18,12 +19,30 @@ totals t table = record { tally = t; table = table }
 abbrev pub empty : Totals
 empty = totals (record { read = 0; accepted = 0; refused_2 = 0; refused_6 = 0; smallest = 0; total = 0 }) (replicate messages 0)
 
+-- Rule 15.5: the answers by their values: of a count or a total, of a tally, and of what is refused with a number
+abbrev pub count_answer : Result ℕ Refusal → Answer ℕ
+count_answer r = answer_of (λ n. n) r
+
+abbrev pub tally_answer : Result Tally Refusal → Answer Tally
+tally_answer r = answer_of (λ t. t) r
+
+abbrev pub numbered : {A : Type 0} → Result A ℕ → Answer A
+numbered (Ok x) = accepted x
+numbered (Err n) = refused n
+
 -- Rule 18.3: whether a count, or a total, is past its end
 abbrev pub count_past : ℕ → Bool
 count_past n = ltb 4294967295 n
 
 abbrev pub total_past : ℕ → Bool
 total_past n = ltb 9223372036854775807 n
+
+-- Rule 18.3: one more of a count, and a reserve more of a total, or 12
+abbrev pub count_rule : ℕ → Answer ℕ
+count_rule n = refuse CountFull (count_past (n + 1)) (accepted (n + 1))
+
+abbrev pub total_rule : ℕ → ℕ → Answer ℕ
+total_rule total ρ = refuse CountFull (total_past (total + ρ)) (accepted (total + ρ))
 
 -- Rules 18.1 and 18.2: the smallest reserve, with one more; 0 stands for none
 abbrev pub smallest_with : ℕ → ℕ → ℕ

@@ -1,8 +1,9 @@
 // What is counted of readings.
 
-// The counts of a link (rule 18.1); a smallest reserve of 0 is none. In C it is a struct too.
+// The counts of a link (rule 18.1). By default it is empty.
+// Stays: a smallest reserve of 0 is none, as in C, where it is a struct too.
 #[repr(C)]
-#[derive(Clone, Copy)]
+#[derive(Clone, Copy, Default)]
 pub struct Tally {
     pub read: u32,
     pub accepted: u32,
@@ -10,11 +11,4 @@ pub struct Tally {
     pub refused_6: u32,
     pub smallest: u64,
     pub total: u64,
-}
-
-// A tally after a reading, and 0 where that was counted, else the number of the refusal.
-#[derive(Clone, Copy)]
-pub struct Step {
-    pub tally: Tally,
-    pub status: u8,
 }
