@@ -4,4 +4,4 @@ use Rattle.pieces.proofs.Pieces.{keep_done}
 use Rattle.pieces.proofs.keep.Goals as goal
 
 pub returns : goal.returns
-returns c = keep_done c.args.held.now c.args.from c.args.end (record { ordered = search rules; there = search rules }) c.move_front.ensures
+returns c = keep_done c.args.held.now c.args.from c.args.end (record { ordered = search rules; there = search rules }) c.copy_within.ensures.after
