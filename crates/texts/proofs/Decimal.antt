@@ -1,14 +1,17 @@
 -- A number's decimal digits: as many as hold it and no fewer, which fixes their count; so the kit's digits are those of the lines.
 -- Assumes nothing.
-use mathlib.Core.Path.{◌≡◌, refl, ap}
+use mathlib.Core.Path.{◌≡◌, refl, sym, ap, ◌∙◌}
 use mathlib.Core.Bool.{Bool, true, false, cond}
-use Prim.Native.Nat.{ℕ, zero, suc, ◌-◌, ◌/◌, ◌^◌, ◌≤◌, ◌<◌}
+use mathlib.Core.List.{List, [], ◌∷◌, ◌++◌}
+use Prim.Native.Nat.{ℕ, zero, suc, ◌+◌, ◌-◌, ◌/◌, ◌%◌, ◌^◌, ◌≤◌, ◌<◌}
 use native.Mathlib.Nat.{pow-le-pow_right, pow-suc, div-lt_iff_lt-mul, le-div_iff_mul-le, lt_of_lt_of_le}
 use native.Mathlib.Omega.{arith}
 use lib.Dec.{ltb, leb, lit<, lit≤}
 use lib.ListN.{length, length-append}
-use borrow.Author.Tests.{ltb-true, ltb-false, leb-true, leb-false}
-use Rattle.io.specs.Digits.{last_digits, IsDigitCount}
+use borrow.Author.Tests.{ltb-true, ltb-false, lt-ltb, leb-true, leb-false}
+use Rattle.std.specs.Fmt.{decimal as std_decimal}
+use Rattle.std.proofs.lemmas.Fmt.{decimal_by_steps}
+use Rattle.io.specs.Digits.{hex_digit_ascii, last_digits, IsDigitCount}
 use Rattle.texts.specs.Texts.{places_in, decimal}
 
 -- a number of one digit
@@ -71,3 +74,20 @@ decimal-length w n h l = rw length_digits (fewest-within (decimal-fewest n) h l)
 -- and so a number of a width in bits
 pub decimal-short : (bits w n : ℕ) → 1 ≤ w → 2 ^ bits ≤ 10 ^ w → n < 2 ^ bits → length (decimal n) ≤ w
 decimal-short bits w n p h l = decimal-length w n p (lt_of_lt_of_le l h)
+
+-- std's decimal digits are those of the lines
+pub decimal_same : (n : ℕ) → n < 2 ^ 64 → std_decimal n ≡ decimal n
+unfolding decimal
+decimal_same = decimal_by_steps (λ m ds. ds ≡ decimal m) one more
+  where
+    digit : (d : ℕ) → d < 10 → hex_digit_ascii d ≡ 48 + d
+    digit d h = rw (lt-ltb d 10 h)
+
+    one : (n : ℕ) → n < 10 → (48 + n) ∷ [] ≡ decimal n
+    one n h =
+        let e : n % 10 ≡ n = omega arith in
+        ap (λ (c : ℕ). c ∷ []) (sym (digit n h) ∙ ap hex_digit_ascii (sym e)) ∙ digits_decimal (fewest-one n h)
+
+    more : (n : ℕ) (ds : List ℕ) → 10 ≤ n → ds ≡ decimal (n / 10) → ds ++ ((48 + n % 10) ∷ []) ≡ decimal n
+    more n ds h e =
+        (λ i. e i ++ (sym (digit (n % 10) (omega arith)) i ∷ [])) ∙ digits_decimal (fewest_more n (places_in (n / 10) (n / 10)) h (decimal-fewest (n / 10)))

@@ -2,22 +2,20 @@
 // buffer changes, and the answer is the place itself.
 #![tactic(auto)]
 
-ghost use Rattle.std.specs.Prelude.{◌≡◌, ◌++◌, ◌+◌, ◌≤◌, ltb, length, take};
-ghost use Rattle.io.specs.Counts.{IsPrefixLen};
-ghost use Rattle.texts.specs.Texts.{decimal, line_of, line_of_two};
+ghost use Rattle.std.specs.Prelude.{◌≡◌, ◌++◌, ◌+◌, ◌≤◌, ltb, length};
+ghost use Rattle.texts.specs.Texts.{line_of, line_of_two};
 ghost use Rattle.texts.specs.Buffers.{Puts, Writes};
+
+use itoa::Buffer;
 
 // Copies a text that fits, and answers the place after it.
 fn copy(text: &[u8], out: &mut [u8], at: usize) -> usize
     requires { at + length text.now ≤ length out.old }
     ensures { Puts text.now out.old at out.new result }
 {
-    let mut i = 0;
-    while i < text.len() {
-        out[at + i] = text[i];
-        i += 1;
-    }
-    at + text.len()
+    let next = at + text.len();
+    out[at..next].copy_from_slice(text);
+    next
 }
 
 // Copies two texts that fit, one after the other, and answers the place after both.
@@ -29,38 +27,19 @@ fn copy_both(first: &[u8], second: &[u8], out: &mut [u8], at: usize) -> usize
     copy(second, out, p)
 }
 
-// Puts a number's decimal digits at the start of an array, and answers how many there are.
-fn spell(n: u64, digits: &mut [u8; 20]) -> usize
-    ensures prefix_len { IsPrefixLen result digits.new }
-    ensures upper_bound { result ≤ 20 }
-    ensures digits_after { take result digits.new ≡ decimal n }
-{
-    io::decimal(n, digits)
-}
-
 // Whether a line goes beyond a buffer of a length: so many bytes of words, and so many more, tested one after the other, since their sum may
 // overflow.
 fn exceeds(words: usize, more: usize, length: usize, at: usize) -> bool
     ensures { result ≡ ltb length (at + (words + more)) }
 {
-    if length < at {
-        return true;
-    }
-    let left = length - at;
-    if left < words {
-        return true;
-    }
-    left - words < more
+    length < at || length - at < words || length - at - words < more
 }
 
 // A text as it is.
 pub fn write_text(text: &[u8], out: &mut [u8], at: usize) -> usize
     ensures { Writes text.now out.old at out.new result }
 {
-    if out.len() < at {
-        return at;
-    }
-    if out.len() - at < text.len() {
+    if out.len() < at || out.len() - at < text.len() {
         return at;
     }
     copy(text, out, at)
@@ -70,12 +49,12 @@ pub fn write_text(text: &[u8], out: &mut [u8], at: usize) -> usize
 pub fn write_one(word: &[u8], n: u64, end: &[u8], out: &mut [u8], at: usize) -> usize
     ensures { Writes (line_of word.now n end.now) out.old at out.new result }
 {
-    let mut digits = [0u8; 20];
-    let k = spell(n, &mut digits);
-    if exceeds(word.len(), k + end.len(), out.len(), at) {
+    let mut buffer = Buffer::new();
+    let digits = buffer.format(n).as_bytes();
+    if exceeds(word.len(), digits.len() + end.len(), out.len(), at) {
         return at;
     }
-    let p = copy_both(word, &digits[..k], out, at);
+    let p = copy_both(word, digits, out, at);
     copy(end, out, p)
 }
 
@@ -91,14 +70,18 @@ pub fn write_two(
 ) -> usize
     ensures { Writes (line_of_two word.now m between.now n end.now) out.old at out.new result }
 {
-    let mut first = [0u8; 20];
-    let mut second = [0u8; 20];
-    let j = spell(m, &mut first);
-    let k = spell(n, &mut second);
-    if exceeds(word.len() + between.len(), j + k + end.len(), out.len(), at) {
+    let (mut one, mut other) = (Buffer::new(), Buffer::new());
+    let first = one.format(m).as_bytes();
+    let second = other.format(n).as_bytes();
+    if exceeds(
+        word.len() + between.len(),
+        first.len() + second.len() + end.len(),
+        out.len(),
+        at,
+    ) {
         return at;
     }
-    let p = copy_both(word, &first[..j], out, at);
-    let q = copy_both(between, &second[..k], out, p);
+    let p = copy_both(word, first, out, at);
+    let q = copy_both(between, second, out, p);
     copy(end, out, q)
 }

@@ -1,25 +1,16 @@
--- The next byte of the text goes to its place, and at the end all bytes are copied.
-use Rattle.std.proofs.Common.{◌≡◌, ℕ, List, ◌+◌, refl, sym, ap, ◌∙◌, length, get_or, set, length-set, add-one, arith}
-use Rattle.std.proofs.Math.Seq.{paste, paste-suc}
+-- What is written over is the text's length from the place on.
+use Rattle.std.proofs.Common.{◌≡◌, ◌+◌, ◌-◌, length, refl, ◌∙◌, arith}
+use Rattle.std.proofs.lemmas.Slice.{put_mid-paste}
 use Rattle.texts.proofs.Buffers.{paste_put}
 use Rattle.texts.proofs.copy.Goals as goal
 
-pub loop-i-preserved : goal.loop-i-preserved
-loop-i-preserved c =
-    let i = c.loop-i.i in
-    let byte = get_or c.args.text.now i 0 in (
-      omega arith,
-      ap (λ (l : List ℕ). set l (c.args.at + i) byte) c.loop-i.invariant.1
-          ∙ paste-suc c.args.out.now c.args.at c.args.text.now i 0 (omega arith) (omega arith)
-          ∙ ap (paste c.args.out.now c.args.at c.args.text.now) (sym (add-one i)),
-      simp length-set c.loop-i.invariant.2,
-    )
-
 pub returns : goal.returns
 returns c =
-    let all : c.loop-i.i ≡ length c.args.text.now = omega arith in
+    let text = c.args.text.now in
+    let at = c.args.at in
+    let all : length text ≡ at + length text - at = omega arith in
     record {
       room = c.requires;
-      buffer = c.loop-i.invariant.1 ∙ ap (paste c.args.out.now c.args.at c.args.text.now) all ∙ paste_put c.args.text.now c.args.out.now c.args.at;
+      buffer = put_mid-paste at (at + length text - at) c.args.out.now _ text (length text) c.copy_from_slice.ensures.after all refl ∙ paste_put text c.args.out.now at;
       place = refl;
     }
