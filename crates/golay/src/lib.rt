@@ -55,6 +55,7 @@ impl From<Refusal> for u8 {
 }
 
 // The codeword of a message. Refuses 3.
+#[tactic(auto, unfolding(crate::specs::Calls::encode_rule))]
 pub fn encode(message: Message) -> Result<Codeword, Refusal>
     ensures { encode_answer result ≡ encode_rule message.0 }
 {
@@ -66,6 +67,7 @@ pub fn encode(message: Message) -> Result<Codeword, Refusal>
 }
 
 // The message of a codeword. Refuses 4, then 5.
+#[tactic(auto, unfolding(crate::specs::Calls::read_rule))]
 pub fn read(word: u32) -> Result<Message, Refusal>
     ensures { read_answer result ≡ read_rule word }
 {
@@ -79,6 +81,7 @@ pub fn read(word: u32) -> Result<Message, Refusal>
 }
 
 // The syndrome of any word. Refuses 4.
+#[tactic(auto, unfolding(crate::specs::Calls::syndrome_rule))]
 pub fn syndrome(word: u32) -> Result<Syndrome, Refusal>
     ensures { syndrome_answer result ≡ syndrome_rule word }
 {
@@ -96,6 +99,7 @@ pub fn ones(number: u32) -> u32
 }
 
 // In how many positions two words differ. Refuses 4.
+#[tactic(auto, unfolding(crate::specs::Calls::distance_rule))]
 pub fn distance(a: u32, b: u32) -> Result<u32, Refusal>
     ensures { distance_answer result ≡ distance_rule a b }
 {

@@ -4,14 +4,8 @@ use lib.Bits.{bit_xor, xor_lt}
 use lib.Dec.{lit≤}
 use Rattle.binary.proofs.Ones.{ones_beyond}
 use Rattle.golay.specs.Answers.{accepted}
-use Rattle.golay.proofs.Rules.{distance-first, distance-second, distance-within}
+use Rattle.golay.proofs.Rules.{distance-within}
 use Rattle.golay.proofs.distance.Goals as goal
-
-pub returns-then-a-ge-WORDS : goal.returns-then-a-ge-WORDS
-returns-then-a-ge-WORDS c = sym (distance-first c.args.a c.args.b c.if-a-ge-WORDS.true)
-
-pub returns-then-b-ge-WORDS : goal.returns-then-b-ge-WORDS
-returns-then-b-ge-WORDS c = sym (distance-second c.args.a c.args.b c.if-a-ge-WORDS.false c.if-b-ge-WORDS.true)
 
 pub returns : goal.returns
 returns c =
