@@ -13,46 +13,24 @@ const CODEWORDS: [u32; 12] = [
     0x300365, 0x500536, 0x777778,
 ];
 
-// The syndromes of the single positions of each column, from its lowest up.
-const COLUMN_6: [u32; 4] = [0x083, 0x082, 0x081, 0x0C0];
-
-const COLUMN_5: [u32; 4] = [0x10C, 0x108, 0x104, 0x140];
-
-const COLUMN_4: [u32; 4] = [0x230, 0x220, 0x210, 0x240];
-
-const COLUMN_3: [u32; 4] = [0x43F, 0x42A, 0x415, 0x440];
-
-const COLUMN_2: [u32; 4] = [0x836, 0x82D, 0x81B, 0x840];
-
-const COLUMN_1: [u32; 4] = [0xFF9, 0xFE7, 0xFDE, 0xF80];
-
 // The syndromes of the single positions, from position 24 up to position 1.
 pub const SYNDROMES: [u32; 24] = [
-    COLUMN_6[0],
-    COLUMN_6[1],
-    COLUMN_6[2],
-    COLUMN_6[3],
-    COLUMN_5[0],
-    COLUMN_5[1],
-    COLUMN_5[2],
-    COLUMN_5[3],
-    COLUMN_4[0],
-    COLUMN_4[1],
-    COLUMN_4[2],
-    COLUMN_4[3],
-    COLUMN_3[0],
-    COLUMN_3[1],
-    COLUMN_3[2],
-    COLUMN_3[3],
-    COLUMN_2[0],
-    COLUMN_2[1],
-    COLUMN_2[2],
-    COLUMN_2[3],
-    COLUMN_1[0],
-    COLUMN_1[1],
-    COLUMN_1[2],
-    COLUMN_1[3],
+    0x083, 0x082, 0x081, 0x0C0, 0x10C, 0x108, 0x104, 0x140, 0x230, 0x220, 0x210, 0x240, 0x43F,
+    0x42A, 0x415, 0x440, 0x836, 0x82D, 0x81B, 0x840, 0xFF9, 0xFE7, 0xFDE, 0xF80,
 ];
+
+// Those of each column, from its lowest up.
+const COLUMN_6: [u32; 4] = [SYNDROMES[0], SYNDROMES[1], SYNDROMES[2], SYNDROMES[3]];
+
+const COLUMN_5: [u32; 4] = [SYNDROMES[4], SYNDROMES[5], SYNDROMES[6], SYNDROMES[7]];
+
+const COLUMN_4: [u32; 4] = [SYNDROMES[8], SYNDROMES[9], SYNDROMES[10], SYNDROMES[11]];
+
+const COLUMN_3: [u32; 4] = [SYNDROMES[12], SYNDROMES[13], SYNDROMES[14], SYNDROMES[15]];
+
+const COLUMN_2: [u32; 4] = [SYNDROMES[16], SYNDROMES[17], SYNDROMES[18], SYNDROMES[19]];
+
+const COLUMN_1: [u32; 4] = [SYNDROMES[20], SYNDROMES[21], SYNDROMES[22], SYNDROMES[23]];
 
 // The message bits that a one at each position puts in, from position 24 up to position 1.
 const MESSAGE_BITS: [u32; 24] = [
@@ -66,11 +44,9 @@ fn row_sum(rows: &[u32], word: u32) -> u32
 {
     let mut sum: u32 = 0;
     let mut left = word;
-    let mut i = 0;
-    while i < rows.len() {
-        sum = sum ^ (left % 2 * rows[i]);
-        left = left / 2;
-        i += 1;
+    for row in rows {
+        sum ^= left % 2 * row;
+        left /= 2;
     }
     sum
 }
@@ -103,13 +79,12 @@ fn column_syndrome(rows: [u32; 4], column: u32) -> u32
     requires { column < 16 }
     ensures { result ≡ column_syndrome rows column }
 {
+    let [a, b, c, d] = rows;
     let mut found: u32 = 0;
-    let mut i: u32 = 0;
-    while i < 16 {
+    for i in 0..16 {
         if i == column {
-            found = four_rows(rows[0], rows[1], rows[2], rows[3], i);
+            found = four_rows(a, b, c, d, i);
         }
-        i += 1;
     }
     found
 }
