@@ -8,7 +8,8 @@ use lib.ListN.{length}
 use Rattle.code.specs.Code.{words, syndrome_of}
 use Rattle.golay.specs.Answers.{accepted, refused}
 use Rattle.patterns.specs.Patterns.{IsPattern}
-use Rattle.hard.proofs.Found.{Above, Found, pattern_for, pattern_for_rule}
+use Rattle.hard.specs.Calls.{Finds}
+use Rattle.hard.proofs.Found.{Above, Found, finds_refusal, pattern_for, pattern_for_rule}
 use Rattle.candidates.specs.Candidates.{Candidates, AtFour}
 use Rattle.candidates.specs.Calls.{WritesCandidates}
 use Rattle.candidates.proofs.Rules.{candidates-length, candidates_above, candidates-other, candidates-four}
@@ -40,6 +41,9 @@ module _ (slots : List ℕ) (l : length slots ≡ 6) where
     answered = ap refused a.number ∙ sym (candidates_above word (pattern_for word) slots l a.high);
     slots = refl;
   }
+
+  pub writes_refused : {word n : ℕ} → Finds word (refused n) → WritesCandidates word slots (refused n) slots
+  writes_refused f = writes_above (finds_refusal f)
 
   module _ {word p n : ℕ} (f : Found word p n) where
     pub writes-other : (n ≡ 4 → ⊥) → WritesCandidates word slots (refused 8) slots

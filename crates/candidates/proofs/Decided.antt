@@ -4,11 +4,11 @@
 use mathlib.Core.Path.{◌≡◌, refl, sym, ap, ◌∙◌, subst}
 use mathlib.Core.List.{List}
 use Prim.Native.Nat.{ℕ}
+use Rattle.std.specs.Prelude.{Result}
+use Rattle.golay.specs.declared.kinds.Refusal.{Refusal}
 use Rattle.golay.specs.Answers.{Answer, accepted, refused}
-use Rattle.golay.proofs.Decided.{said_once, reason, reason_number}
+use Rattle.golay.proofs.Decided.{answer-once}
 use Rattle.patterns.proofs.Patterns.{pattern_unique}
-use Rattle.candidates.specs.declared.kinds.CandidatesAnswer.{CandidatesAnswer}
-use Rattle.candidates.specs.declared.kinds.CandidatesAnswer.TheVariants as candidates
 use Rattle.candidates.specs.Answers.{candidates_answer}
 use Rattle.candidates.specs.Candidates.{Candidates}
 use Rattle.candidates.specs.Calls.{candidates_rule, SlotsHold, WritesCandidates}
@@ -32,20 +32,9 @@ module _ {word : ℕ} {before x y : List ℕ} {a b : Answer (Unit {0})} (p : Wri
   slots-once =
       held_same word b before x y (subst (λ (r : Answer (Unit {0})). SlotsHold word r before x) candidates-once p.slots) q.slots
 
--- ---- of the call's own answers, which are made again from what they stand for
-
-candidates_again : Answer (Unit {0}) → CandidatesAnswer
-candidates_again (accepted x) = candidates.Accepted
-candidates_again (refused n) = candidates.Refused (reason n)
-
-candidates_back : (r : CandidatesAnswer) → candidates_again (candidates_answer r) ≡ r
-unfolding candidates_again
-candidates_back candidates.Accepted = refl
-candidates_back (candidates.Refused r) = ap candidates.Refused (reason_number r)
-
--- the answer and what the slots hold afterwards
-pub candidates-decided : (word : ℕ) (before : List ℕ) (x y : CandidatesAnswer) (after later : List ℕ)
+-- the call's own answer and what the slots hold afterwards
+pub candidates-decided : (word : ℕ) (before : List ℕ) (x y : Result (Unit {0}) Refusal) (after later : List ℕ)
     → WritesCandidates word before (candidates_answer x) after → WritesCandidates word before (candidates_answer y) later
     → (x ≡ y) × (after ≡ later)
 candidates-decided word before x y after later p q =
-    (said_once candidates_answer candidates_again candidates_back x y (candidates-once p q) refl, slots-once p q)
+    (answer-once (λ nothing. nothing) (λ nothing. nothing) (λ nothing. refl) x y (candidates-once p q) refl, slots-once p q)

@@ -36,8 +36,8 @@ eight_tests :
     (long above at-four : Bool)
     → refused 8 ≡ refuse WrongLength long (refuse WordAbove above (refuse NotDistanceFour (not at-four) (accepted (tt {0}))))
     → T (not above) × T (not at-four)
-eight_tests true b c e = let z : ◌≡◌ {A = ℕ} 8 1 = cc in let f : ⊥ = omega arith in absurd f
-eight_tests false true c e = let z : ◌≡◌ {A = ℕ} 8 4 = cc in let f : ⊥ = omega arith in absurd f
+eight_tests true b c e = absurd cc
+eight_tests false true c e = absurd cc
 eight_tests false false true e = absurd (no_answer (sym e))
 eight_tests false false false e = (tt, tt)
 

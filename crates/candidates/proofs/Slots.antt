@@ -104,10 +104,15 @@ module _ (word s : ℕ) (slots : List ℕ) (first end n : ℕ) (v : FilledFrom w
             ∙ v.parts;
       }
 
--- ---- in the terms of the code: place n is worth 1 shifted by n, and f is the pattern that it reads
+-- ---- a turn in the terms of the code: place n is worth 1 shifted by n, and f is the pattern that it reads
 
-module _ {word s : ℕ} {slots : List ℕ} {first end i f : ℕ} (a : AtFour word s) (v : FilledFrom word s slots first end i) (pos : 0 < i)
-    (r : IsPattern (bit_xor s (get_or syndrome_rows (i - 1) 0) % syndromes) f) where
+pub record Turn (word s : ℕ) (slots : List ℕ) (first end i f : ℕ) : Type 0 where
+  pub at-four : AtFour word s
+  pub filled : FilledFrom word s slots first end i
+  pub more : 0 < i
+  pub read : IsPattern (bit_xor s (get_or syndrome_rows (i - 1) 0) % syndromes) f
+
+module _ {word s : ℕ} {slots : List ℕ} {first end i f : ℕ} (t : Turn word s slots first end i f) where
   abbrev n : ℕ
   n = i - 1
 
@@ -115,19 +120,19 @@ module _ {word s : ℕ} {slots : List ℕ} {first end i f : ℕ} (a : AtFour wor
   place = 1 * 2 ^ n % 2 ^ 32
 
   this : FilledFrom word s slots first end (suc n)
-  this = subst (FilledFrom word s slots first end) (let e : i ≡ suc (i - 1) = omega arith in e) v
+  this = subst (FilledFrom word s slots first end) (let e : i ≡ suc (i - 1) = omega (arith, t.more) in e) t.filled
 
   place_lt : n < 24
-  place_lt = omega (arith, v.bound)
+  place_lt = omega (arith, t.filled.bound, t.more)
 
   place-worth : place ≡ 2 ^ n
   place-worth = ap (λ (x : ℕ). x % 2 ^ 32) (one-mul (2 ^ n)) ∙ mod-eq_of_lt (pow-lt {j = 32} (omega (arith, place_lt)))
 
   left_lt : bit_xor s (get_or syndrome_rows n 0) < syndromes
-  left_lt = xor_lt 12 s (get_or syndrome_rows n 0) (at-four_lt word s a) (row_lt n place_lt)
+  left_lt = xor_lt 12 s (get_or syndrome_rows n 0) (at-four_lt word s t.at-four) (row_lt n place_lt)
 
   rest_read : f ≡ rest s n
-  rest_read = pattern_unique (rw (mod-eq_of_lt left_lt) at r) (pattern_of_lem (bit_xor s (get_or syndrome_rows n 0)) left_lt)
+  rest_read = pattern_unique (rw (mod-eq_of_lt left_lt) at t.read) (pattern_of_lem (bit_xor s (get_or syndrome_rows n 0)) left_lt)
 
   leads_read : f < place → T (leads s n)
   leads_read l = lt→ltb (rest s n) (2 ^ n) (rw (← rest_read, ← place-worth) l)

@@ -9,11 +9,8 @@ ghost use Rattle.candidates.specs.Answers.{candidates_answer};
 ghost use Rattle.candidates.specs.Calls.{WritesCandidates};
 ghost use Rattle.candidates.specs.Candidates.{Candidates, AtFour};
 
-pub mod kinds;
-
 use golay::kinds::Refusal;
-use hard::kinds::{ApplyAnswer, FindAnswer, Pattern};
-use kinds::CandidatesAnswer;
+use hard::kinds::Pattern;
 use rows::SYNDROMES;
 
 // An error applied to a word.
@@ -21,10 +18,7 @@ fn applied(word: u32, error: u32) -> u32
     requires { (word < words) × (error < words) }
     ensures { result ≡ bit_xor word error }
 {
-    match hard::apply(word, Pattern(error)) {
-        ApplyAnswer::Accepted(candidate) => candidate,
-        ApplyAnswer::Refused(_) => word,
-    }
+    hard::apply(word, Pattern(error)).unwrap()
 }
 
 // Writes the six codewords at distance four from a word of syndrome s. Each differs from the word by an error of four ones: its highest place,
@@ -37,9 +31,7 @@ fn fill(word: u32, s: u32, slots: &mut [u32])
 {
     let mut first: usize = 0;
     let mut end: usize = 6;
-    let mut i: u32 = 24;
-    while i > 0 {
-        i -= 1;
+    for i in (0..24u32).rev() {
         let place: u32 = 1 << i;
         let rest = lookup::pattern(s ^ SYNDROMES[i as usize]);
         if rest < place {
@@ -56,20 +48,16 @@ fn fill(word: u32, s: u32, slots: &mut [u32])
 }
 
 // Writes the six codewords at distance four from a word to six slots, the least first. Refuses 1, then 4, then 8, and then no slot changes.
-pub fn candidates(word: u32, slots: &mut [u32]) -> CandidatesAnswer
+pub fn candidates(word: u32, slots: &mut [u32]) -> Result<(), Refusal>
     ensures { WritesCandidates word slots.old (candidates_answer result) slots.new }
 {
     if slots.len() != 6 {
-        return CandidatesAnswer::Refused(Refusal::WrongLength);
+        return Err(Refusal::WrongLength);
     }
-    match hard::find(word) {
-        FindAnswer::Refused(reason) => CandidatesAnswer::Refused(reason),
-        FindAnswer::Accepted(_, distance) => {
-            if distance != 4 {
-                return CandidatesAnswer::Refused(Refusal::NotDistanceFour);
-            }
-            fill(word, rows::syndrome_of(word), slots);
-            CandidatesAnswer::Accepted
-        }
+    let found = hard::find(word)?;
+    if found.distance != 4 {
+        return Err(Refusal::NotDistanceFour);
     }
+    fill(word, rows::syndrome_of(word), slots);
+    Ok(())
 }

@@ -1,11 +1,22 @@
 -- Applying does not refuse words.
 -- Assumes nothing.
-use Rattle.std.proofs.Common.{refl}
+use Rattle.std.proofs.Common.{◌≡◌, ap, ℕ, ◌<◌}
+use Rattle.std.specs.Int.Bits.{bit_xor}
+use Rattle.std.specs.Prelude.{Result, Ok, Err}
+use Rattle.std.specs.Result.{is_ok}
+use Rattle.code.specs.Code.{words}
+use Rattle.golay.specs.declared.kinds.Refusal.{Refusal}
+use Rattle.hard.specs.Answers.{apply_answer}
+use Rattle.hard.specs.Calls.{apply_rule}
 use Rattle.hard.proofs.Calls as hard
 use Rattle.candidates.proofs.applied.Goals as goal
 
-pub returns-in-Accepted : goal.returns-in-Accepted
-returns-in-Accepted c = hard.applied c.requires.0 c.requires.1 c.in-Accepted.ensures refl
+is : {word error : ℕ} → (word < words) × (error < words) → (r : Result ℕ Refusal) → apply_answer r ≡ apply_rule word error → r ≡ Ok (bit_xor word error)
+is h (Ok v) rule = ap Ok (hard.applied h.0 h.1 rule)
+is h (Err reason) rule = absurd (hard.not-refused h.0 h.1 rule)
 
-pub returns-in-Refused : goal.returns-in-Refused
-returns-in-Refused c = absurd (hard.not-refused c.requires.0 c.requires.1 c.in-Refused.ensures refl)
+pub unwrap-requires : goal.unwrap-requires
+unwrap-requires c = ap is_ok (is c.requires c.apply.result c.apply.ensures)
+
+pub returns : goal.returns
+returns c = let e = is c.requires c.apply.result c.apply.ensures in cc
