@@ -13,10 +13,14 @@ fn pairs_by<F: Fn(u64, u64) -> u64>(codes: &[u64; 48], rule: F) -> [u64; 64]
     ensures { PairsBy (F.post rule) codes.now result }
 {
     let mut pairs = [0; 64];
-    for j in 0..64 {
-        let first = 16 + j / 32 * 16 + j % 32 / 4;
-        let second = 24 + j / 32 * 16 + j % 32 / 16 * 4 + j % 4;
-        pairs[j] = rule(codes[first], codes[second]);
+    for q in 0..16 {
+        let x = codes[16 + q / 8 * 16 + q % 8];
+        let i = 24 + q / 8 * 16 + q % 8 / 4 * 4;
+        let n = 4 * q;
+        pairs[n] = rule(x, codes[i]);
+        pairs[n + 1] = rule(x, codes[i + 1]);
+        pairs[n + 2] = rule(x, codes[i + 2]);
+        pairs[n + 3] = rule(x, codes[i + 3]);
     }
     pairs
 }
