@@ -6,6 +6,9 @@ ghost use Rattle.std.specs.Prelude.{◌≡◌, ◌≤◌, ◌<◌};
 ghost use Rattle.code.specs.Code.{words};
 ghost use Rattle.patterns.specs.Positions as positions;
 
+// What a field holds that holds no position.
+const NONE: u32 = 31;
+
 // What a field counts in a word: 2^23 where it holds position 1, 1 where it holds position 24, and nothing where it holds 31, past the last.
 fn worth(field: u32) -> u32
     requires { field < 32 }
@@ -29,17 +32,12 @@ pub fn spread(entry: u32) -> u32
 pub fn held(entry: u32) -> u32
     ensures { result ≡ positions.held 4 entry }
 {
-    if entry % 32 != 31 {
-        return 4;
-    }
-    if entry / 32 % 32 != 31 {
-        return 3;
-    }
-    if entry / 1_024 % 32 != 31 {
-        return 2;
-    }
-    if entry / 32_768 % 32 != 31 {
-        return 1;
+    let mut left = entry;
+    for passed in 0..4 {
+        if left % 32 != NONE {
+            return 4 - passed;
+        }
+        left /= 32;
     }
     0
 }
