@@ -14,11 +14,15 @@ use Rattle.signed.proofs.Parts.{parts, le_parts, lt_parts}
 use Rattle.binary.specs.Words.{ones}
 use Rattle.contest.specs.Largest.{Best}
 use Rattle.code.specs.Code.{words, syndrome_of}
+use Rattle.std.specs.Prelude.{Result, Ok, Err}
+use Rattle.std.specs.Result.{IsOk}
+use Rattle.golay.specs.declared.kinds.Refusal.{Refusal}
 use Rattle.golay.specs.Answers.{Answer, accepted, refused}
 use Rattle.patterns.proofs.Patterns.{pattern_unique}
 use Rattle.hard.specs.Calls.{Corrects}
 use Rattle.hard.proofs.Rules.{correct_nearer}
 use Rattle.candidates.specs.Candidates.{◌∈◌, Ascending, Candidate, Candidates, AtFour}
+use Rattle.candidates.specs.Answers.{candidates_answer}
 use Rattle.candidates.specs.Calls.{WritesCandidates, SlotsHold}
 use Rattle.candidates.proofs.Rules.{candidates-four}
 use Rattle.decision.specs.Decision.{cost_of, merits, Chosen, alone, shared}
@@ -33,21 +37,23 @@ refused-four {word} h p = record { within = h; syndrome = refl; pattern = p.patt
     go (yes e) = e
     go (no d) =
         let e = correct_nearer word p.pattern h d in
-        let z : ◌≡◌ {A = ℕ} 0 1 = cc (p.answered, e) in
-        let f : ⊥ = omega arith in
-        absurd f
+        absurd (cc (p.answered, e))
 
--- and there the candidate call writes its candidates
-pub four-candidates :
-    {word : ℕ} {before after : List ℕ} {answer : Answer (Unit {0})}
-    → AtFour word (syndrome_of word)
-    → length before ≡ 6
-    → WritesCandidates word before answer after
-    → Candidates word after
-four-candidates {word} {before} {after} {answer} f l w =
-    let o : ones 24 w.pattern ≡ 4 = ap (ones 24) (pattern_unique w.rule f.rule) ∙ f.four in
-    let e : answer ≡ accepted tt = w.answered ∙ candidates-four word w.pattern before l f.within o in
-    subst (λ (a : Answer (Unit {0})). SlotsHold word a before after) e w.slots
+-- and there the candidate call is not refused, and writes its candidates
+module _ {word : ℕ} {before after : List ℕ} (r : Result (Unit {0}) Refusal) (f : AtFour word (syndrome_of word)) (l : length before ≡ 6)
+    (w : WritesCandidates word before (candidates_answer r) after) where
+  four-accepted : candidates_answer r ≡ accepted tt
+  four-accepted = w.answered ∙ candidates-four word w.pattern before l f.within (ap (ones 24) (pattern_unique w.rule f.rule) ∙ f.four)
+
+  pub four-ok : IsOk r
+  four-ok = go r four-accepted
+    where
+      go : (a : Result (Unit {0}) Refusal) → candidates_answer a ≡ accepted tt → IsOk a
+      go (Ok t) e = refl
+      go (Err reason) e = cc
+
+  pub four-candidates : Candidates word after
+  four-candidates = subst (λ (a : Answer (Unit {0})). SlotsHold word a before after) four-accepted w.slots
 
 -- ---- places of a list
 

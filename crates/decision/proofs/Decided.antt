@@ -7,13 +7,13 @@ use Prim.Native.Nat.{ℕ}
 use native.Mathlib.Omega.{arith}
 use native.Mathlib.Decide.{ℕ_discrete}
 use lib.IntN.{ℤ}
+use Rattle.std.specs.Prelude.{Option, Some, None}
+use Rattle.golay.specs.declared.kinds.Codeword.{Codeword}
 use Rattle.golay.specs.Answers.{Answer, accepted, refused}
 use Rattle.golay.proofs.Decided.{said_once}
 use Rattle.hard.specs.Answers.{Correction}
 use Rattle.hard.proofs.Decided.{correct-once}
 use Rattle.hard.proofs.Meaning.{no_answer}
-use Rattle.decision.specs.declared.kinds.Decision.{Decision}
-use Rattle.decision.specs.declared.kinds.Decision.TheVariants as decision
 use Rattle.decision.specs.Decision.{decision_answer, Cheapest, TwoCheapest, Chosen, alone, shared, Follows, Decides, Gives}
 
 module _ {word : ℕ} {xs : List ℤ} where
@@ -74,14 +74,14 @@ decides_six {word} {xs} {n} p = go p.correction p.follows
 
 -- ---- of the call's own answers, which are made again from what they stand for
 
-again : Answer ℕ → Decision
-again (accepted x) = decision.For (record { 0 = x })
-again (refused n) = decision.Tied
+again : Answer ℕ → Option Codeword
+again (accepted x) = Some (record { 0 = x })
+again (refused n) = None
 
-back : (r : Decision) → again (decision_answer r) ≡ r
+back : (r : Option Codeword) → again (decision_answer r) ≡ r
 unfolding again
-back (decision.For c) = refl
-back decision.Tied = refl
+back (Some c) = refl
+back None = refl
 
 pub gives-once : {c word : ℕ} {xs : List ℤ} (a b : Bool) → Gives c word xs a → Gives c word xs b → a ≡ b
 gives-once true true p q = refl
@@ -89,5 +89,5 @@ gives-once true false p q = absurd (q.gives-not refl (p.gives refl))
 gives-once false true p q = absurd (p.gives-not refl (q.gives refl))
 gives-once false false p q = refl
 
-pub decide-decided : (word : ℕ) (xs : List ℤ) (x y : Decision) → Decides word xs (decision_answer x) → Decides word xs (decision_answer y) → x ≡ y
+pub decide-decided : (word : ℕ) (xs : List ℤ) (x y : Option Codeword) → Decides word xs (decision_answer x) → Decides word xs (decision_answer y) → x ≡ y
 decide-decided word xs x y p q = said_once decision_answer again back x y (decides_one p q) refl

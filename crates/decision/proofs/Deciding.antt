@@ -11,11 +11,14 @@ use lib.IntN.{ℤ}
 use borrow.Author.Tests.{eqb-true, eqb-false}
 use Rattle.binary.specs.Words.{distance}
 use Rattle.code.specs.Code.{words}
+use Rattle.std.specs.Prelude.{Option, Some, None}
+use Rattle.std.specs.Option.{option_eq}
+use Rattle.golay.specs.declared.kinds.Codeword.{Codeword}
 use Rattle.golay.specs.Answers.{Answer, accepted, refused}
 use Rattle.hard.specs.Answers.{Correction}
 use Rattle.hard.specs.Calls.{Corrects}
 use Rattle.hard.proofs.Meaning.{no_answer, correct-accepted}
-use Rattle.decision.specs.Decision.{Chosen, alone, shared, Follows, Decides, Gives}
+use Rattle.decision.specs.Decision.{decision_answer, Chosen, alone, shared, Follows, Decides, Gives}
 use Rattle.decision.proofs.Decided.{decided-same, tied-alone}
 
 module _ {word : ℕ} {xs : List ℤ} where
@@ -33,6 +36,11 @@ module _ {word : ℕ} {xs : List ℤ} where
 
   pub gives-tied : {c : ℕ} → Decides word xs (refused 6) → Gives c word xs false
   gives-tied p = record { gives = λ e. absurd (false≢true e); gives-not = λ e q. tied-alone p q }
+
+  -- what a decision says when it is compared with that of c
+  pub gives_decided : {c : Codeword} (d : Option Codeword) → Decides word xs (decision_answer d) → Gives c.0 word xs (option_eq (λ (x y : Codeword). eqb x.0 y.0) d (Some c))
+  gives_decided (Some d) p = gives_compared p
+  gives_decided None p = gives-tied p
 
 -- ---- how far a word is from what it is decided for
 

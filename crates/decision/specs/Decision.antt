@@ -1,6 +1,7 @@
 -- Rules 9.3 to 9.5: what a word is decided for by a reading, after source document 003, over hard correction.
-use Rattle.std.specs.Prelude.{◌≡◌, ◌≢◌, Bool, true, false, List, ℕ, ◌≤◌, ◌<◌, ℤ, pos, neg_ℤ, get_or}
+use Rattle.std.specs.Prelude.{◌≡◌, ◌≢◌, Bool, true, false, List, ℕ, ◌≤◌, ◌<◌, ℤ, pos, neg_ℤ, get_or, Option, Some, None}
 use Rattle.std.specs.Int.Bits.{bit_xor}
+use Rattle.golay.specs.declared.kinds.Codeword.{Codeword}
 use Rattle.golay.specs.declared.kinds.Refusal.TheVariants.{Tied}
 use Rattle.golay.specs.Refusals.{number}
 use Rattle.golay.specs.Answers.{Answer, accepted, refused}
@@ -8,13 +9,11 @@ use Rattle.hard.specs.Answers.{Correction}
 use Rattle.hard.specs.Calls.{Corrects}
 use Rattle.candidates.specs.Candidates.{Candidate}
 use Rattle.signs.specs.Signs.{cost}
-use Rattle.decision.specs.declared.kinds.Decision.{Decision}
-use Rattle.decision.specs.declared.kinds.Decision.TheVariants as decision
 
 -- Rules 9.7 and 15.5: a codeword, or the number for a tied word
-abbrev pub decision_answer : Decision → Answer ℕ
-decision_answer (decision.For codeword) = accepted codeword.0
-decision_answer decision.Tied = refused (number Tied)
+abbrev pub decision_answer : Option Codeword → Answer ℕ
+decision_answer (Some codeword) = accepted codeword.0
+decision_answer None = refused (number Tied)
 
 -- Rule 9.4: what a candidate costs, by the positions where it departs from the word
 abbrev pub cost_of : ℕ → List ℤ → ℕ → ℕ

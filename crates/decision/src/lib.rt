@@ -1,7 +1,7 @@
 // Source document 003's rule for one word: corrected; at distance four the candidate that costs least by the reading.
 #![tactic(auto)]
 
-ghost use Rattle.std.specs.Prelude.{◌≡◌, ◌%◌, ◌<◌, pos, neg_ℤ, length};
+ghost use Rattle.std.specs.Prelude.{◌≡◌, ◌%◌, ◌<◌, pos, neg_ℤ};
 ghost use Rattle.signed.specs.Within.{Within};
 ghost use Rattle.contest.specs.Largest.{Best};
 ghost use Rattle.code.specs.Code.{positions, words, syndrome_of};
@@ -9,13 +9,9 @@ ghost use Rattle.candidates.specs.Candidates.{AtFour};
 ghost use Rattle.signs.specs.Signs.{cost, whole};
 ghost use Rattle.decision.specs.Decision.{decision_answer, merits, Chosen, Decides, Gives};
 
-pub mod kinds;
-
 use contest::Keeper;
 use golay::WORDS;
 use golay::kinds::Codeword;
-use hard::kinds::CorrectAnswer;
-use kinds::Decision;
 
 // A cost, negated: the cheapest has the largest.
 fn merit(error: u32, reading: &[i32]) -> i64
@@ -26,59 +22,50 @@ fn merit(error: u32, reading: &[i32]) -> i64
 }
 
 // The two largest merits of six candidates, and where the largest is.
-fn cheapest(word: u32, slots: &[u32], reading: &[i32]) -> Keeper
-    requires { length slots.now ≡ 6 }
+fn cheapest(word: u32, slots: &[u32; 6], reading: &[i32]) -> Keeper
     ensures { Best (merits word (whole positions reading.now) slots.now) 0 6 result.best result.second result.at }
 {
     let mut kept = Keeper::first(merit(word ^ slots[0], reading), 0);
-    let mut i: u32 = 1;
-    while i < 6 {
+    for i in 1..6u32 {
         kept = kept.take(merit(word ^ slots[i as usize], reading), i);
-        i += 1;
     }
     kept
 }
 
-// The candidate that costs least, for a word that correction refuses.
-fn chosen(word: u32, reading: &[i32]) -> Decision
+// The candidate that costs least, for a word that correction refuses; none where two share the least cost.
+fn chosen(word: u32, reading: &[i32]) -> Option<Codeword>
     requires { AtFour word (syndrome_of word) }
     ensures { Chosen word (whole positions reading.now) (decision_answer result) }
 {
-    let mut slots: [u32; 6] = [0; 6];
-    candidates::candidates(word, &mut slots);
-    let kept = cheapest(word, &slots, reading);
-    let best = kept.best;
-    let second = kept.second;
+    let mut slots = [0; 6];
+    candidates::candidates(word, &mut slots).unwrap();
+    let Keeper { best, second, at } = cheapest(word, &slots, reading);
     if best <= second {
-        return Decision::Tied;
+        return None;
     }
-    let at = kept.at as usize;
-    Decision::For(Codeword(slots[at]))
+    Some(Codeword(slots[at as usize]))
 }
 
-// What a word is decided for, by a reading. Of a number that is no word the lowest 24 bits count, and by a slice that is no reading nothing
-// costs anything.
-pub fn decide(word: u32, reading: &[i32]) -> Decision
+// What a word is decided for, by a reading, or none where it is tied. Of a number that is no word the lowest 24 bits count, and by a slice that
+// is no reading nothing costs anything.
+pub fn decide(word: u32, reading: &[i32]) -> Option<Codeword>
     ensures { Decides (word % words) (whole positions reading.now) (decision_answer result) }
 {
     let w = word % WORDS;
     match hard::correct(w) {
-        CorrectAnswer::Accepted(codeword, _) => Decision::For(codeword),
-        CorrectAnswer::Refused(_) => chosen(w, reading),
+        Ok(corrected) => Some(corrected.codeword),
+        Err(_) => chosen(w, reading),
     }
 }
 
 // Whether a word is decided for a codeword. Correction comes first here too, in place of `decide`: so `chosen`, which is long, has two callers,
 // and the compiler puts it into neither.
-pub fn gives(codeword: u32, word: u32, reading: &[i32]) -> bool
-    ensures { Gives codeword (word % words) (whole positions reading.now) result }
+pub fn gives(codeword: Codeword, word: u32, reading: &[i32]) -> bool
+    ensures { Gives codeword.0 (word % words) (whole positions reading.now) result }
 {
     let w = word % WORDS;
     match hard::correct(w) {
-        CorrectAnswer::Accepted(c, _) => c.0 == codeword,
-        CorrectAnswer::Refused(_) => match chosen(w, reading) {
-            Decision::For(c) => c.0 == codeword,
-            Decision::Tied => false,
-        },
+        Ok(corrected) => corrected.codeword == codeword,
+        Err(_) => chosen(w, reading) == Some(codeword),
     }
 }

@@ -17,7 +17,6 @@ loop-i-preserved c =
     let f = merits c.args.word (whole 24 c.args.reading.now) c.args.slots.now in
     let w : Within 51539607552 (f l.i) = rw m.value at m.within in
     record {
-      within = omega arith;
       kept =
           subst (λ (n : ℕ). Kept (run f n) c.take-kept.result) (sym (add-one l.i))
           (subst (λ (v : ℤ). Kept (seen v l.i ∷ run f l.i) c.take-kept.result) (reads m.within (lit< tt) ∙ m.value)

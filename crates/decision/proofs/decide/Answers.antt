@@ -6,4 +6,4 @@ use Rattle.decision.proofs.Choosing.{refused-four}
 use Rattle.decision.proofs.decide.Goals as goal
 
 pub chosen-requires : goal.chosen-requires
-chosen-requires c = refused-four (mod-lt c.args.word (lit< tt)) c.in-Refused.ensures
+chosen-requires c = refused-four (mod-lt c.args.word (lit< tt)) c.in-Err.ensures
