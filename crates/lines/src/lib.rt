@@ -2,8 +2,9 @@
 // changes, and the answer is the place itself.
 #![tactic(auto)]
 
-ghost use Rattle.std.specs.Prelude.{◌≤◌, length};
+ghost use Rattle.std.specs.Prelude.{◌≡◌, ◌≤◌, length};
 ghost use Rattle.texts.specs.Buffers.{Writes};
+ghost use Rattle.suffixes.specs.Suffixes.{end_of, longest_end};
 ghost use Rattle.lines.specs.Lines.{header, accepted_line, refused_line, stopped_line, longest};
 
 use sequence::kinds::Follows;
@@ -20,6 +21,15 @@ pub fn write_header(out: &mut [u8], at: usize) -> usize
     write_text(b"message reserve\n", out, at)
 }
 
+// What a line ends with, in an array that is lent for it.
+fn end_in(place: &mut [u8; LONGEST_END], follows: Follows) -> &[u8]
+    ensures ending { result.now ≡ end_of follows }
+    ensures follows_len_bound { length (end_of follows) ≤ longest_end }
+{
+    let k = write_end(follows, place, 0);
+    &place[..k]
+}
+
 // As in "0 8" (rule 13.3).
 pub fn write_accepted(
     message: u32,
@@ -31,9 +41,9 @@ pub fn write_accepted(
     ensures writes { Writes (accepted_line message reserve follows) out.old at out.new result }
     ensures follows_len_bound { length (accepted_line message reserve follows) ≤ longest }
 {
-    let mut end = [0u8; LONGEST_END];
-    let k = write_end(follows, &mut end, 0);
-    write_two(b"", message as u64, b" ", reserve, &end[..k], out, at)
+    let mut place = [0u8; LONGEST_END];
+    let end = end_in(&mut place, follows);
+    write_two(b"", message as u64, b" ", reserve, end, out, at)
 }
 
 // As in "refused 6" (rule 13.4).
@@ -41,9 +51,9 @@ pub fn write_refused(number: u8, follows: Follows, out: &mut [u8], at: usize) ->
     ensures writes { Writes (refused_line number follows) out.old at out.new result }
     ensures follows_len_bound { length (refused_line number follows) ≤ longest }
 {
-    let mut end = [0u8; LONGEST_END];
-    let k = write_end(follows, &mut end, 0);
-    write_one(b"refused ", number as u64, &end[..k], out, at)
+    let mut place = [0u8; LONGEST_END];
+    let end = end_in(&mut place, follows);
+    write_one(b"refused ", number as u64, end, out, at)
 }
 
 // As in "stopped 10 at 196" (rule 13.5).

@@ -52,16 +52,15 @@ fn write_messages(table: &[u32], out: &mut [u8], at: usize) -> usize
     ensures puts { Puts (message_lines 0 table.now) out.old at out.new result }
     ensures upper_bound { result ≤ at + length table.now * longest_message }
 {
-    let mut m: usize = 0;
     let mut to = at;
-    while m < table.len() {
-        to = write_message(m as u64, table[m], out, to);
-        m += 1;
+    for (message, count) in table.iter().enumerate() {
+        to = write_message(message as u64, *count, out, to);
     }
     to
 }
 
 // As in "smallest 8", or "smallest none".
+// Stays: 0 stands for none in the tally, as the C interface has it.
 fn write_smallest(smallest: u64, out: &mut [u8], at: usize) -> usize
     ensures { Writes (smallest_line smallest) out.old at out.new result }
 {
@@ -82,13 +81,11 @@ fn write_reserves(t: Tally, out: &mut [u8], at: usize) -> usize
 
 // The whole sheet at the start of a buffer, and how long it is. A buffer that is shorter than the longest sheet of such a table is left as it
 // was, and the answer is 0.
+// Stays: what could not fail still cannot (`SheetRule`); no sheet is empty, so 0 is no sheet's length.
 pub fn write_sheet(t: Tally, table: &[u32], out: &mut [u8]) -> usize
     ensures { SheetRule (totals t table.now) out.old out.new result }
 {
-    if out.len() < OTHER_LINES {
-        return 0;
-    }
-    if (out.len() - OTHER_LINES) / MESSAGE_LINE < table.len() {
+    if out.len() < OTHER_LINES || (out.len() - OTHER_LINES) / MESSAGE_LINE < table.len() {
         return 0;
     }
     let p = write_counts(t, out, 0);
