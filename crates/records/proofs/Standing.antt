@@ -4,11 +4,10 @@ use mathlib.Core.Path.{◌≡◌, refl, sym, ap, ◌∙◌}
 use mathlib.Core.Bool.{Bool, true, false, cond}
 use mathlib.Core.List.{List, [], ◌∷◌, ◌++◌}
 use Prim.Native.Nat.{ℕ, zero, suc, ◌+◌, ◌-◌, ◌*◌, ◌≤◌, ◌<◌}
-use native.Mathlib.Nat.{add-zero}
 use native.Mathlib.Omega.{arith}
 use lib.Dec.{leb, eqb, lit<}
 use lib.ListN.{length, get_or, take, drop, length-append, length-drop}
-use lib.Seq.{get_or-drop, drop-drop, take-append-le, drop-append-le}
+use lib.Seq.{drop-drop, take-append-le, drop-append-le}
 use borrow.Author.Tests.{le-leb, lt-leb, leb-true, leb-false, eq-eqb, ne_eqb}
 use Rattle.std.specs.Prelude.{None, Some}
 use Rattle.code.specs.Code.{positions}
@@ -35,66 +34,50 @@ abbrev tested_in : ℕ → ℕ → ℕ → List ℕ → Standing Record
 tested_in a b left rest = tested (is_old_mark a b) (leb old_length left) (is_new_mark a b) (leb new_length left) rest
 
 -- by the count of the bytes that are left: none, one, two and more
-standing-none : (left : List ℕ) → length left ≡ 0 → standing left ≡ ended
+pub standing-none : (left : List ℕ) → length left ≡ 0 → standing left ≡ ended
 unfolding standing
 standing-none [] h = refl
 standing-none (a ∷ left) h = let e : ⊥ = omega arith in absurd e
 
-standing-one : (left : List ℕ) → length left ≡ 1 → standing left ≡ unfinished
+pub standing-one : (left : List ℕ) → length left ≡ 1 → standing left ≡ unfinished
 unfolding standing
 standing-one [] h = let e : ⊥ = omega arith in absurd e
 standing-one (a ∷ []) h = refl
 standing-one (a ∷ b ∷ left) h = let e : ⊥ = omega arith in absurd e
 
-standing-two : (left : List ℕ) → 2 ≤ length left → standing left ≡ tested_in (get_or left 0 0) (get_or left 1 0) (length left) (drop 2 left)
+standing-more : (left : List ℕ) → 2 ≤ length left → standing left ≡ tested_in (get_or left 0 0) (get_or left 1 0) (length left) (drop 2 left)
 unfolding standing
-standing-two [] h = let e : ⊥ = omega arith in absurd e
-standing-two (a ∷ []) h = let e : ⊥ = omega arith in absurd e
-standing-two (a ∷ b ∷ rest) h = let l : 2 + length rest ≡ length (a ∷ b ∷ rest) = omega arith in rw l
+standing-more [] h = let e : ⊥ = omega arith in absurd e
+standing-more (a ∷ []) h = let e : ⊥ = omega arith in absurd e
+standing-more (a ∷ b ∷ rest) h = let l : 2 + length rest ≡ length (a ∷ b ∷ rest) = omega arith in rw l
 
--- the same at a place
-module _ (bytes : List ℕ) (at : ℕ) where
-  pub at_end_lem : length bytes ≤ at → stands_at bytes at ≡ ended
-  at_end_lem h = standing-none (drop at bytes) (simp length-drop (omega arith))
+module _ (left : List ℕ) (two : 2 ≤ length left) where
+  standing-two : standing left ≡ tested_in (get_or left 0 0) (get_or left 1 0) (length left) (drop 2 left)
+  standing-two = standing-more left two
 
-  pub at_one : length bytes - at ≡ 1 → stands_at bytes at ≡ unfinished
-  at_one h = standing-one (drop at bytes) (simp length-drop h)
+  pub first-wrong : (get_or left 0 0 ≡ 0x49 → ⊥) → standing left ≡ stopped 9
+  first-wrong a = rw (standing-two, ne_eqb (get_or left 0 0) 0x49 a)
 
-  module _ (two : 2 ≤ length bytes - at) where
-    at-two : stands_at bytes at ≡ tested_in (get_or bytes at 0) (get_or bytes (at + 1) 0) (length bytes - at) (drop (at + 2) bytes)
-    at-two =
-        standing-two (drop at bytes) (simp length-drop two)
-        ∙ (λ i.
-        tested_in
-        ((get_or-drop at bytes 0 0 ∙ ap (λ (k : ℕ). get_or bytes k 0) (add-zero at)) i)
-        (get_or-drop at bytes 1 0 i)
-        (length-drop at bytes i)
-        (drop-drop 2 at bytes i))
+  module _ (a : get_or left 0 0 ≡ 0x49) where
+    by_second : (second : ℕ) → get_or left 1 0 ≡ second → standing left ≡ tested_in 0x49 second (length left) (drop 2 left)
+    by_second second e = standing-two ∙ (λ i. tested_in (a i) (e i) (length left) (drop 2 left))
 
-    pub at_first : (get_or bytes at 0 ≡ 0x49 → ⊥) → stands_at bytes at ≡ stopped 9
-    at_first a = rw (at-two, ne_eqb (get_or bytes at 0) 0x49 a)
+    pub second-wrong : (get_or left 1 0 ≡ 0x43 → ⊥) → (get_or left 1 0 ≡ 0x44 → ⊥) → standing left ≡ stopped 9
+    second-wrong b c = rw (standing-two, eq-eqb (get_or left 0 0) 0x49 a, ne_eqb (get_or left 1 0) 0x43 b, ne_eqb (get_or left 1 0) 0x44 c)
 
-    module _ (a : get_or bytes at 0 ≡ 0x49) where
-      by_second : (second : ℕ) → get_or bytes (at + 1) 0 ≡ second → stands_at bytes at ≡ tested_in 0x49 second (length bytes - at) (drop (at + 2) bytes)
-      by_second second e = at-two ∙ (λ i. tested_in (a i) (e i) (length bytes - at) (drop (at + 2) bytes))
+    module _ (b : get_or left 1 0 ≡ 0x43) where
+      pub old-short : length left < old_length → standing left ≡ unfinished
+      old-short h = by_second 0x43 b ∙ rw (lt-leb old_length (length left) h)
 
-      pub at_second : (get_or bytes (at + 1) 0 ≡ 0x43 → ⊥) → (get_or bytes (at + 1) 0 ≡ 0x44 → ⊥) → stands_at bytes at ≡ stopped 9
-      at_second b c =
-          rw (at-two, eq-eqb (get_or bytes at 0) 0x49 a, ne_eqb (get_or bytes (at + 1) 0) 0x43 b, ne_eqb (get_or bytes (at + 1) 0) 0x44 c)
+      pub old-whole : old_length ≤ length left → standing left ≡ whole (old_after (drop 2 left))
+      old-whole h = by_second 0x43 b ∙ rw (le-leb old_length (length left) h)
 
-      module _ (b : get_or bytes (at + 1) 0 ≡ 0x43) where
-        pub old-short : length bytes - at < old_length → stands_at bytes at ≡ unfinished
-        old-short h = by_second 0x43 b ∙ rw (lt-leb old_length (length bytes - at) h)
+    module _ (b : get_or left 1 0 ≡ 0x44) where
+      pub new-short : length left < new_length → standing left ≡ unfinished
+      new-short h = by_second 0x44 b ∙ rw (lt-leb new_length (length left) h)
 
-        pub old-whole : old_length ≤ length bytes - at → stands_at bytes at ≡ whole (old_after (drop (at + 2) bytes))
-        old-whole h = by_second 0x43 b ∙ rw (le-leb old_length (length bytes - at) h)
-
-      module _ (b : get_or bytes (at + 1) 0 ≡ 0x44) where
-        pub new-short : length bytes - at < new_length → stands_at bytes at ≡ unfinished
-        new-short h = by_second 0x44 b ∙ rw (lt-leb new_length (length bytes - at) h)
-
-        pub new-whole : new_length ≤ length bytes - at → stands_at bytes at ≡ whole (new_after (drop (at + 2) bytes))
-        new-whole h = by_second 0x44 b ∙ rw (le-leb new_length (length bytes - at) h)
+      pub new-whole : new_length ≤ length left → standing left ≡ whole (new_after (drop 2 left))
+      new-whole h = by_second 0x44 b ∙ rw (le-leb new_length (length left) h)
 
 -- ---- from what stands, back to the bytes
 

@@ -1,7 +1,7 @@
 // A capture as bytes: what stands at a place of it. The call answers for every slice and every place.
 #![tactic(auto)]
 
-ghost use Rattle.std.specs.Prelude.{◌≡◌, cond};
+ghost use Rattle.std.specs.Prelude.{◌≡◌, cond, drop};
 ghost use Rattle.records.specs.Records.{ended, unfinished, stands_at, in_piece, next_from, stands_answer};
 
 pub mod kinds;
@@ -24,32 +24,26 @@ fn cut(last: bool) -> Stands
     }
 }
 
+// The bytes from a place on; none past the end.
+fn rest(bytes: &[u8], at: usize) -> &[u8]
+    ensures { result.now ≡ drop at bytes.now }
+{
+    bytes.get(at..).unwrap_or(&[])
+}
+
 // What stands at a record's start, at a place of a capture or of a piece of it, its last one or not; past the end nothing is left. Stops with
 // 10, 9, then 10.
 pub fn stands_at(bytes: &[u8], at: usize, last: bool) -> Stands
     ensures { stands_answer result ≡ next_from at (in_piece last (stands_at bytes.now at)) }
 {
-    if bytes.len() <= at {
-        return Stands::End;
+    let left = rest(bytes, at);
+    match left {
+        [] => Stands::End,
+        [0x49, 0x43, ..] if left.len() < OLD_RECORD => cut(last),
+        [0x49, 0x43, ..] => Stands::Record(at + OLD_RECORD),
+        [0x49, 0x44, ..] if left.len() < NEW_RECORD => cut(last),
+        [0x49, 0x44, ..] => Stands::Record(at + NEW_RECORD),
+        [_] => cut(last),
+        _ => Stands::Stopped(Refusal::NoMark),
     }
-    let left = bytes.len() - at;
-    if left == 1 {
-        return cut(last);
-    }
-    if bytes[at] != 0x49 {
-        return Stands::Stopped(Refusal::NoMark);
-    }
-    if bytes[at + 1] == 0x43 {
-        if left < OLD_RECORD {
-            return cut(last);
-        }
-        return Stands::Record(at + OLD_RECORD);
-    }
-    if bytes[at + 1] != 0x44 {
-        return Stands::Stopped(Refusal::NoMark);
-    }
-    if left < NEW_RECORD {
-        return cut(last);
-    }
-    Stands::Record(at + NEW_RECORD)
 }

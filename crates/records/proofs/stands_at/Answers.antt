@@ -1,53 +1,54 @@
--- Each return is a case of what stands at the place.
-use Rattle.std.proofs.Common.{◌≡◌, Bool, true, false, cond, List, ℕ, sym, ap, ◌∙◌, arith, rules}
-use Rattle.records.specs.Records.{Record, Standing, ended, stopped, unfinished, stands_at, in_piece, next_from}
-use Rattle.records.proofs.Standing.{at_end_lem, at_one, at_first, at_second, old-short, old-whole, new-short, new-whole}
+-- Each return is a case of what stands where the bytes that are left begin.
+use Rattle.std.proofs.Common.{◌≡◌, Bool, true, false, cond, List, ℕ, drop, sym, ap, ◌∙◌, arith, rules}
+use Rattle.records.specs.Records.{Record, Standing, ended, stopped, unfinished, standing, stands_at, in_piece, next_from}
+use Rattle.records.proofs.Standing.{standing-none, standing-one, first-wrong, second-wrong, old-short, old-whole, new-short, new-whole}
 use Rattle.records.proofs.stands_at.Goals as goal
 
-module _ (bytes : List ℕ) (at : ℕ) where
-  stands : (last : Bool) {s : Standing Record} → stands_at bytes at ≡ s → next_from at (in_piece last s) ≡ next_from at (in_piece last (stands_at bytes at))
-  stands last e = sym (ap (λ (s : Standing Record). next_from at (in_piece last s)) e)
+module _ (bytes : List ℕ) (at : ℕ) {left : List ℕ} (same : left ≡ drop at bytes) (last : Bool) where
+  stands : {s : Standing Record} → standing left ≡ s → next_from at (in_piece last s) ≡ next_from at (in_piece last (stands_at bytes at))
+  stands e = ap (λ (s : Standing Record). next_from at (in_piece last s)) (sym e ∙ ap standing same)
 
-  wrong : (last : Bool) → stands_at bytes at ≡ stopped 9 → stopped 9 ≡ next_from at (in_piece last (stands_at bytes at))
-  wrong true e = stands true e
-  wrong false e = stands false e
+  wrong : standing left ≡ stopped 9 → stopped 9 ≡ next_from at (in_piece last (stands_at bytes at))
+  wrong e = told last ∙ stands e
+    where
+      told : (b : Bool) → ◌≡◌ {A = Standing ℕ} (stopped 9) (next_from at (in_piece b (stopped 9)))
+      told true = search rules
+      told false = search rules
 
-  missing : (last : Bool) → stands_at bytes at ≡ unfinished → cond last unfinished ended ≡ next_from at (in_piece last (stands_at bytes at))
-  missing true e = stands true e
-  missing false e = stands false e
+  missing : standing left ≡ unfinished → cond last unfinished ended ≡ next_from at (in_piece last (stands_at bytes at))
+  missing e = told last ∙ stands e
+    where
+      told : (b : Bool) → ◌≡◌ {A = Standing ℕ} (cond b unfinished ended) (next_from at (in_piece b unfinished))
+      told true = search rules
+      told false = search rules
 
-pub returns-then-bytes-at : goal.returns-then-bytes-at
-returns-then-bytes-at c = stands c.args.bytes.now c.args.at c.args.last (at_end_lem c.args.bytes.now c.args.at c.if-bytes-at.true)
+pub returns-in-empty : goal.returns-in-empty
+returns-in-empty c = stands c.args.bytes.now c.args.at c.rest-left.ensures c.args.last (standing-none c.rest-left.result.now (omega arith))
 
-pub returns-then-left-eq1 : goal.returns-then-left-eq1
-returns-then-left-eq1 c = c.cut.ensures ∙ missing c.args.bytes.now c.args.at c.args.last (at_one c.args.bytes.now c.args.at c.if-left-eq1.true)
+pub returns-in-len1 : goal.returns-in-len1
+returns-in-len1 c = c.cut.ensures ∙ missing c.args.bytes.now c.args.at c.rest-left.ensures c.args.last (standing-one c.rest-left.result.now (omega arith))
 
-pub returns-then-bytes-at-ne73 : goal.returns-then-bytes-at-ne73
-returns-then-bytes-at-ne73 c = wrong c.args.bytes.now c.args.at c.args.last (at_first c.args.bytes.now c.args.at (omega arith) (search rules))
+pub returns-in-73 : goal.returns-in-73
+returns-in-73 c =
+    c.cut-in-73.ensures ∙ missing c.args.bytes.now c.args.at c.rest-left.ensures c.args.last (old-short c.rest-left.result.now (omega arith) (search rules) (search rules) (search rules))
 
-pub returns-then-left-lt-OLD_RECORD : goal.returns-then-left-lt-OLD_RECORD
-returns-then-left-lt-OLD_RECORD c =
-    c.cut-then-left-lt-OLD_RECORD.ensures
-    ∙ missing c.args.bytes.now c.args.at c.args.last
-    (old-short c.args.bytes.now c.args.at (omega arith) (search rules) (search rules) (search rules))
+pub returns-in-73-2 : goal.returns-in-73-2
+returns-in-73-2 c =
+    stands c.args.bytes.now c.args.at c.rest-left.ensures c.args.last (old-whole c.rest-left.result.now (omega arith) (search rules) (search rules) (search rules))
 
-pub returns-then-bytes-at-eq67 : goal.returns-then-bytes-at-eq67
-returns-then-bytes-at-eq67 c =
-    stands c.args.bytes.now c.args.at c.args.last
-    (old-whole c.args.bytes.now c.args.at (omega arith) (search rules) (search rules) (search rules))
+pub returns-in-73-3 : goal.returns-in-73-3
+returns-in-73-3 c =
+    c.cut-in-73-3.ensures ∙ missing c.args.bytes.now c.args.at c.rest-left.ensures c.args.last (new-short c.rest-left.result.now (omega arith) (search rules) (search rules) (search rules))
 
-pub returns-then-bytes-at-ne68 : goal.returns-then-bytes-at-ne68
-returns-then-bytes-at-ne68 c =
-    wrong c.args.bytes.now c.args.at c.args.last
-    (at_second c.args.bytes.now c.args.at (omega arith) (search rules) (search rules) (search rules))
+pub returns-in-73-4 : goal.returns-in-73-4
+returns-in-73-4 c =
+    stands c.args.bytes.now c.args.at c.rest-left.ensures c.args.last (new-whole c.rest-left.result.now (omega arith) (search rules) (search rules) (search rules))
 
-pub returns-then-left-lt-NEW_RECORD : goal.returns-then-left-lt-NEW_RECORD
-returns-then-left-lt-NEW_RECORD c =
-    c.cut-then-left-lt-NEW_RECORD.ensures
-    ∙ missing c.args.bytes.now c.args.at c.args.last
-    (new-short c.args.bytes.now c.args.at (omega arith) (search rules) (search rules) (search rules))
+pub returns-in_default : goal.returns-in_default
+returns-in_default c =
+    wrong c.args.bytes.now c.args.at c.rest-left.ensures c.args.last
+    (second-wrong c.rest-left.result.now (omega arith) (search rules) (search rules) (search rules))
 
-pub returns : goal.returns
-returns c =
-    stands c.args.bytes.now c.args.at c.args.last
-    (new-whole c.args.bytes.now c.args.at (omega arith) (search rules) (search rules) (search rules))
+pub returns-in_default-2 : goal.returns-in_default-2
+returns-in_default-2 c =
+    wrong c.args.bytes.now c.args.at c.rest-left.ensures c.args.last (first-wrong c.rest-left.result.now (omega arith) (search rules))
