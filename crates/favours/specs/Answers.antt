@@ -1,10 +1,7 @@
 -- Rule 15.5: the answer of the column figure's call, by its value or the number of a refusal.
-use Rattle.std.specs.Prelude.{ℤ}
-use Rattle.golay.specs.Refusals.{number}
-use Rattle.golay.specs.Answers.{Answer, accepted, refused}
-use Rattle.favours.specs.declared.kinds.ColumnFigureAnswer.{ColumnFigureAnswer}
-use Rattle.favours.specs.declared.kinds.ColumnFigureAnswer.TheVariants.{Accepted, Refused}
+use Rattle.std.specs.Prelude.{ℤ, Result}
+use Rattle.golay.specs.declared.kinds.Refusal.{Refusal}
+use Rattle.golay.specs.Answers.{Answer, answer_of}
 
-abbrev pub column_figure_answer : ColumnFigureAnswer → Answer ℤ
-column_figure_answer (Accepted value) = accepted value
-column_figure_answer (Refused reason) = refused (number reason)
+abbrev pub column_figure_answer : Result ℤ Refusal → Answer ℤ
+column_figure_answer r = answer_of (λ value. value) r

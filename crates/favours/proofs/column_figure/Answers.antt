@@ -1,43 +1,32 @@
 -- The tests in the rule's order, and the class's own sum in the column.
-use Rattle.std.proofs.Common.{rules, ◌≡◌, sym, ap, ◌∙◌, ◌+◌, ◌-◌, arith, w64, FitsSigned}
+use Rattle.std.proofs.Common.{rules, ◌≡◌, ap, ◌∙◌, ◌+◌, ◌-◌, arith, w64, FitsSigned}
 use Rattle.std.proofs.lemmas.Int.{to_z-of_z}
 use Rattle.golay.specs.Answers.{accepted}
 use Rattle.classes.specs.Classes.{column_figure}
 use Rattle.columns.proofs.Picking.{column_at-within}
-use Rattle.favours.proofs.Rules.{column-length, column-negative, column_class, column_before, column_after, column-within}
+use Rattle.favours.proofs.Rules.{column-check, column_class, column_before, column_after, column-within}
 use Rattle.favours.proofs.column_figure.Goals as goal
 
-pub returns-then-reading-ne-POSITIONS : goal.returns-then-reading-ne-POSITIONS
-returns-then-reading-ne-POSITIONS c =
-    sym (column-length c.args.reading.now c.args.class c.args.column c.if-reading-ne-POSITIONS.true)
-
-pub returns-then-most_negative : goal.returns-then-most_negative
-returns-then-most_negative c =
-    sym
-    (column-negative c.args.reading.now c.args.class c.args.column c.if-reading-ne-POSITIONS.false (sym c.most_negative.ensures.is ∙ c.if-most_negative.true))
+pub returns-in_err-check : goal.returns-in_err-check
+returns-in_err-check c = search (rules, column-check)
 
 pub returns-then-class-ge-CLASSES : goal.returns-then-class-ge-CLASSES
-returns-then-class-ge-CLASSES c =
-    sym
-    (column_class c.args.reading.now c.args.class c.args.column c.if-reading-ne-POSITIONS.false (sym c.most_negative.ensures.is ∙ c.if-most_negative.false) c.if-class-ge-CLASSES.true)
+returns-then-class-ge-CLASSES c = column_class c.args.reading.now c.args.class c.args.column c.in_ok-check.ensures.answer c.if-class-ge-CLASSES.true
 
-pub returns-then-column-lt1 : goal.returns-then-column-lt1
-returns-then-column-lt1 c =
-    sym
-    (column_before c.args.reading.now c.args.class c.args.column c.if-reading-ne-POSITIONS.false (sym c.most_negative.ensures.is ∙ c.if-most_negative.false) c.if-class-ge-CLASSES.false c.if-column-lt1.true)
-
-pub returns-then-column-gt6 : goal.returns-then-column-gt6
-returns-then-column-gt6 c =
-    sym
-    (column_after c.args.reading.now c.args.class c.args.column c.if-reading-ne-POSITIONS.false (sym c.most_negative.ensures.is ∙ c.if-most_negative.false) c.if-class-ge-CLASSES.false c.if-column-lt1.false c.if-column-gt6.true)
-
-pub returns : goal.returns
-returns c =
+pub returns-in-1-to-6 : goal.returns-in-1-to-6
+returns-in-1-to-6 c =
     let xs = c.args.reading.now in
     let k = c.args.class in
     let j = c.args.column in
     let e : j - 1 + 1 ≡ j = omega arith in
-    let f : FitsSigned w64 c.class_column-figure.result = search rules in
-    ap accepted
-    (to_z-of_z w64 c.class_column-figure.result f ∙ c.class_column-figure.ensures ∙ column_at-within xs k (j - 1) (omega arith) ∙ ap (column_figure xs k) e)
-    ∙ sym (column-within xs k j c.if-reading-ne-POSITIONS.false (sym c.most_negative.ensures.is ∙ c.if-most_negative.false) c.if-class-ge-CLASSES.false c.if-column-lt1.false c.if-column-gt6.false)
+    let f : FitsSigned w64 c.class_column.result = search rules in
+    ap accepted (to_z-of_z w64 c.class_column.result f ∙ c.class_column.ensures ∙ column_at-within xs k (j - 1) (omega arith) ∙ ap (column_figure xs k) e)
+    ∙ column-within xs k j c.in_ok-check.ensures.answer c.if-class-ge-CLASSES.false (omega arith) (omega arith)
+
+pub returns-in_default : goal.returns-in_default
+returns-in_default c =
+    column_before c.args.reading.now c.args.class c.args.column c.in_ok-check.ensures.answer c.if-class-ge-CLASSES.false (omega arith)
+
+pub returns-in_default-2 : goal.returns-in_default-2
+returns-in_default-2 c =
+    column_after c.args.reading.now c.args.class c.args.column c.in_ok-check.ensures.answer c.if-class-ge-CLASSES.false (omega arith)
