@@ -4,17 +4,9 @@
 ghost use Rattle.golay.specs.Calls.{distance_rule};
 ghost use Rattle.hands.specs.Hands.{HandsBack, itself};
 
-use golay::kinds::DistanceAnswer;
-
 #[unsafe(no_mangle)]
 pub extern "C" fn trial_distance(a: u32, b: u32, distance: &mut u32) -> u8
     ensures { HandsBack (distance_rule a b) itself distance.old distance.new result }
 {
-    match golay::distance(a, b) {
-        DistanceAnswer::Accepted(d) => {
-            *distance = d;
-            0
-        }
-        DistanceAnswer::Refused(reason) => golay::refusal_number(reason),
-    }
+    hands::hand_back(golay::distance(a, b), distance)
 }
