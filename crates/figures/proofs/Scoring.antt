@@ -3,15 +3,13 @@ use mathlib.Core.Path.{◌≡◌, refl, sym, ap, ap₂, ◌∙◌}
 use mathlib.Core.Logic.{◌≢◌}
 use mathlib.Core.Bool.{Bool, true, false}
 use mathlib.Core.List.{List, [], ◌∷◌}
-use Prim.Native.Nat.{ℕ, zero, suc, ◌+◌, ◌-◌, ◌*◌, ◌/◌, ◌%◌, ◌≤◌, ◌<◌, min}
+use Prim.Native.Nat.{ℕ, zero, suc, ◌+◌, ◌*◌, ◌/◌, ◌%◌, ◌≤◌, ◌<◌, min}
 use native.Mathlib.Nat.{min_comm}
 use native.Mathlib.Omega.{arith}
 use native.Mathlib.Decide.{ℕ_discrete}
 use lib.Dec.{eqb, lit≤}
 use lib.IntN.{ℤ, pos, ◌-ℤ◌, +ℤ_idr}
 use lib.ListN.{length, get_or}
-use mir.Syntax.{w32, w64}
-use mir.Val.{Fits}
 use Rattle.signed.specs.Sign.{sign}
 use Rattle.signed.specs.Within.{Within}
 use Rattle.signed.proofs.Bounds.{within-pos, within-sub, within_le}
@@ -22,14 +20,13 @@ use Rattle.contest.specs.Figures.{signs, least, reached, code}
 use Rattle.contest.proofs.Numbers.{one_small, bit-same, bit-other}
 use Rattle.contest.proofs.Codes.{code_sum, code_least, codes-weight, codes-odd, codes-least}
 use Rattle.code.specs.Characters.{fourth, fifth, sixth}
-use Rattle.classes.specs.Classes.{classes, parity_of, characters_of}
+use Rattle.classes.specs.Classes.{parity_of, characters_of}
 use Rattle.classes.proofs.Characters.{fourth_small, fifth_small, sixth_small}
 use Rattle.columns.specs.Places.{Filled}
 use Rattle.columns.specs.Columns.{SumsWithin, place, far}
-use Rattle.columns.proofs.Filling.{Part, single}
 use Rattle.pairs.specs.Pairs.{widest, first_of, second_of, Pairs}
 use Rattle.pairs.proofs.Pairing.{padded, pairs_within}
-use Rattle.figures.specs.Figures.{reached_from, CodeAt, Codes, Usable, FirstTwo, middle_of, last_of, scored, figure_from, figure_of, figure_at}
+use Rattle.figures.specs.Figures.{reached_from, CodeAt, Codes, Usable, middle_of, last_of, scored, figure_from, figure_of, figure_at}
 
 -- ---- codes
 
@@ -126,44 +123,6 @@ second-place k h = omega arith
 parity-place : (k : ℕ) → k < 128 → k / 4 / 16 ≡ parity_of k
 parity-place k h = omega arith
 
--- each of the four classes from 4 q on is one of 128, and its number fits
-module _ {q : ℕ} (h : q < 32) (k : ℕ) (four : k < 4) where
-  pub class_known : 4 * q + k < classes
-  class_known = omega arith
-
-  pub class_fits : Fits w32 (4 * q + k)
-  class_fits = omega arith
-
-  pub class_wide : Fits w64 (4 * q + k)
-  class_wide = omega arith
-
--- the places of their first two columns can be reached
-pub record Firsts (q : ℕ) : Type 0 where
-  pub known : q < 32
-  pub wide : Fits w64 q
-  pub x : Part (q / 4) 1 48
-  pub half : Fits w64 (q / 16 * 4)
-  pub from_second : Fits w64 (8 + q / 16 * 4)
-  pub y : Part (8 + q / 16 * 4 + q % 4) 1 48
-  pub parity : Fits w64 (q / 16)
-  pub next : Fits w32 (q + 1)
-  pub up : q + 1 ≤ 32
-  pub less : 32 - (q + 1) < 32 - q
-
-pub firsts : {q : ℕ} → q < 32 → Firsts q
-firsts h = record {
-  known = h;
-  wide = omega arith;
-  x = single (omega arith) (lit≤ tt);
-  half = omega arith;
-  from_second = omega arith;
-  y = single (omega arith) (lit≤ tt);
-  parity = omega arith;
-  next = omega arith;
-  up = omega arith;
-  less = omega arith;
-}
-
 pub four_more : (q : ℕ) → 4 * (q + 1) ≡ 4 * q + 4
 four_more q = omega arith
 
@@ -175,41 +134,19 @@ module _ (e : List ℕ) (q : ℕ) where
   abbrev pub x2 : ℕ
   x2 = get_or e (8 + q / 16 * 4 + q % 4) 0
 
-  module _ (w : (j : ℕ) → get_or e j 0 ≤ widest) where
-    pub first-two-fits : Fits w64 (x1 + x2)
-    first-two-fits = omega (arith, w (q / 4), w (8 + q / 16 * 4 + q % 4))
-
-    module _ (h : q < 32) where
-      pub first_three_fits : Fits w64 (x1 + x2 + q / 16)
-      first_three_fits = omega (arith, w (q / 4), w (8 + q / 16 * 4 + q % 4))
-
-      pub first-two_small : {l : ℕ} → l ≡ min x1 x2 → FirstTwo (record { sum = x1 + x2 + q / 16; least = l })
-      first-two_small e = record {
-        sum = omega (arith, w (q / 4), w (8 + q / 16 * 4 + q % 4));
-        least = omega (arith, w (q / 4));
-      }
-
-  pub figure-from : {s l : List ℕ} → Pairs ◌+◌ e s → Pairs min e l → q < 32 → {least : ℕ} → least ≡ min x1 x2
-      → (k : ℕ) → 4 * q ≤ k → k < 4 * q + 4 → figure_at e k ≡ figure_from s l (x1 + x2 + q / 16) least k
+  pub figure-from : {s l : List ℕ} → Pairs ◌+◌ e s → Pairs min e l → q < 32 → {sum least : ℕ} → sum ≡ x1 + x2 + q / 16 → least ≡ min x1 x2
+      → (k : ℕ) → 4 * q ≤ k → k < 4 * q + 4 → figure_at e k ≡ figure_from s l sum least k
   unfolding figure_from figure_at
-  figure-from S L h v k a b =
+  figure-from S L h u v k a b =
       let d : q ≡ k / 4 = omega arith in
       let n : k < 128 = omega arith in
-      rw (middle_pair k S, last_pair k S, middle_pair k L, last_pair k L, v, d, first-place k n, second-place k n, parity-place k n) refl
+      rw (middle_pair k S, last_pair k S, middle_pair k L, last_pair k L, u, v, d, first-place k n, second-place k n, parity-place k n) refl
 
 -- by the places where the pairs stand
 pub figure-read : (s l : List ℕ) (sum least k : ℕ) {i j : ℕ} → i ≡ middle_of k → j ≡ last_of k
     → scored (sum + get_or s i 0 + get_or s j 0) (min (get_or l j 0) (min (get_or l i 0) least)) ≡ figure_from s l sum least k
 unfolding figure_from
 figure-read s l sum least k p q = rw (p, q) refl
-
--- as it adds up
-module _ (a b c : ℕ) (h : a + b + c ≤ 6 * widest + 1) where
-  pub first_of_three : Fits w64 (a + b)
-  first_of_three = omega arith
-
-  pub all_three : Fits w64 (a + b + c)
-  all_three = omega arith
 
 pub taken_off : (l s : ℕ) → 2 * (l / 8) * (s % 2) ≤ l
 taken_off l s = two_cases (λ r. 2 * (l / 8) * r ≤ l) (omega arith) (omega arith) (s % 2) (bit_lt s)

@@ -7,7 +7,6 @@ use Rattle.code.specs.Characters.{fourth, fifth, sixth}
 use Rattle.classes.specs.Classes.{classes, parity_of, characters_of, reached_of}
 use Rattle.columns.specs.Columns.{place, picks}
 use Rattle.pairs.specs.Pairs.{widest}
-use Rattle.figures.specs.declared.FirstPair.{FirstPair}
 
 -- Rules 8.4 and 8.5: the figure of class k, as the 48 sums s reach it
 unfoldable pub reached_from : List ℤ → ℕ → ℤ
@@ -29,11 +28,6 @@ pub record Codes (s : List ℤ) (e : List ℕ) : Type 0 where
 
 abbrev pub Usable : List ℕ → Type 0
 Usable r = (j : ℕ) → get_or r j 0 ≤ 2 * widest
-
--- with the class's parity
-pub record FirstTwo (first : FirstPair) : Type 0 where
-  pub sum : first.sum ≤ 2 * widest + 1
-  pub least : first.least ≤ 2 * widest
 
 -- ---- the pairs of class k
 

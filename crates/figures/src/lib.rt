@@ -2,19 +2,19 @@
 // sizes' sum and the signs' parity, and the least code holds the least size, so a figure takes no branch on a sign.
 #![tactic(auto)]
 
-ghost use Rattle.std.specs.Prelude.{◌≡◌, ℕ, ◌+◌, ◌*◌, ◌≤◌, ◌<◌, ℤ, get_or};
+ghost use Rattle.std.specs.Prelude.{◌≡◌, ℕ, ◌+◌, ◌*◌, ◌/◌, ◌%◌, ◌≤◌, ◌<◌, min, ℤ, get_or};
 ghost use Rattle.signed.specs.Within.{Within};
 ghost use Rattle.contest.specs.Figures.{code};
 ghost use Rattle.contest.specs.Kept.{Kept, run};
 ghost use Rattle.classes.specs.Classes.{classes};
 ghost use Rattle.columns.specs.Columns.{far};
-ghost use Rattle.pairs.specs.Pairs.{widest};
-ghost use Rattle.figures.specs.Figures.{Codes, middle_of, last_of, Table, Usable, FirstTwo, figure_from, figure_at, KeptUpTo, reached_from};
+ghost use Rattle.pairs.specs.Pairs.{widest, Pairs};
+ghost use Rattle.figures.specs.Figures.{Codes, middle_of, last_of, Table, Usable, figure_from, figure_at, KeptUpTo, reached_from};
 
 use columns::ColumnSums;
 use contest::Keeper;
 use pairs::{pair_leasts, pair_sums};
-use signed::{bit, smaller};
+use signed::smaller;
 
 // Where the codes of a class's third and fourth column stand together, and those of its fifth and sixth.
 const MIDDLE: [u8; 128] = [
@@ -38,17 +38,7 @@ fn coded(v: i64) -> u64
     requires { Within 8589934592 v }
     ensures { result ≡ code v }
 {
-    8 * signed::size(v) + bit(signed::negative(v)) as u64
-}
-
-fn codes(sums: &ColumnSums) -> [u64; 48]
-    ensures { Codes sums.now.values result }
-{
-    let mut r: [u64; 48] = [0; 48];
-    for (n, v) in sums.values.iter().enumerate() {
-        r[n] = coded(*v);
-    }
-    r
+    8 * signed::size(v) + u64::from(signed::negative(v))
 }
 
 // The codes of the first two columns: their sum with the parity, and the smaller.
@@ -56,85 +46,120 @@ fn codes(sums: &ColumnSums) -> [u64; 48]
 struct FirstPair {
     sum: u64,
     least: u64,
+    ghost small_sum: { sum ≤ 2 * widest + 1 },
+    ghost small_least: { least ≤ 2 * widest },
 }
 
-// The figure of class k, whose first two codes are added with its parity, so that the sum is odd where the favoured top bits have not that
-// parity (rule 8.4).
-fn figure(
-    sums: &[u64; 64],
-    leasts: &[u64; 64],
-    middle: &[u8; 128],
-    last: &[u8; 128],
-    first: FirstPair,
-    k: usize,
-) -> i64
-    requires k_lt_classes { (k < classes) × FirstTwo first }
-    requires usable { Usable sums.now × Usable leasts.now }
-    requires table { Table middle_of middle.now × Table last_of last.now }
-    ensures value { result ≡ figure_from sums.now leasts.now first.sum first.least k }
-    ensures within { Within far result }
-{
-    let i = middle[k] as usize;
-    let j = last[k] as usize;
-    let s = first.sum + sums[i] + sums[j];
-    let l = smaller(leasts[j], smaller(leasts[i], first.least));
-    (s / 8) as i64 - (2 * (l / 8) * (s % 2)) as i64
+// The other columns in pairs: their codes added, and the smaller of them; and where each class finds its own. The tables are laid out once.
+#[derive(Drop)]
+struct OtherPairs {
+    sums: [u64; 64],
+    leasts: [u64; 64],
+    middle: [u8; 128],
+    last: [u8; 128],
+    ghost usable_sums: { Usable sums },
+    ghost usable_leasts: { Usable leasts },
+    ghost middle_table: { Table middle_of middle },
+    ghost last_table: { Table last_of last },
 }
 
-// The four classes from 4 q on, which have their first two columns in common.
-fn take_four(
-    t: Keeper,
-    sums: &[u64; 64],
-    leasts: &[u64; 64],
-    middle: &[u8; 128],
-    last: &[u8; 128],
-    first: FirstPair,
-    q: u32,
-) -> Keeper
-    requires q_bound { (q < 32) × FirstTwo first }
-    requires usable { Usable sums.now × Usable leasts.now }
-    requires table { Table middle_of middle.now × Table last_of last.now }
-    ensures { (f : ℕ → ℤ) → ((k : ℕ) → 4 * q ≤ k → k < 4 * q + 4 → f k ≡ figure_from sums.now leasts.now first.sum first.least k) → KeptUpTo f (4 * q) t → KeptUpTo f (4 * q + 4) result }
-{
-    let k = 4 * q;
-    let i = k as usize;
-    let t1 = t.take(figure(sums, leasts, middle, last, first, i), k);
-    let t2 = t1.take(figure(sums, leasts, middle, last, first, i + 1), k + 1);
-    let t3 = t2.take(figure(sums, leasts, middle, last, first, i + 2), k + 2);
-    t3.take(figure(sums, leasts, middle, last, first, i + 3), k + 3)
+impl OtherPairs {
+    fn of_codes(codes: &SumCodes) -> Self
+        ensures sums { Pairs ◌+◌ codes.now.values result.sums }
+        ensures leasts { Pairs min codes.now.values result.leasts }
+    {
+        let sums = pair_sums(&codes.values);
+        let leasts = pair_leasts(&codes.values);
+        let middle = MIDDLE;
+        let last = LAST;
+        OtherPairs {
+            sums,
+            leasts,
+            middle,
+            last,
+        }
+    }
+
+    // The figure of class k, whose first two codes are added with its parity, so that the sum is odd where the favoured top bits have not that
+    // parity (rule 8.4).
+    fn figure(&self, first: FirstPair, k: usize) -> i64
+        requires { k < classes }
+        ensures value { result ≡ figure_from self.now.sums self.now.leasts first.sum first.least k }
+        ensures within { Within far result }
+    {
+        let i = self.middle[k] as usize;
+        let j = self.last[k] as usize;
+        let s = first.sum + self.sums[i] + self.sums[j];
+        let l = smaller(self.leasts[j], smaller(self.leasts[i], first.least));
+        (s / 8) as i64 - (2 * (l / 8) * (s % 2)) as i64
+    }
+
+    // The four classes from 4 q on, which have their first two columns in common.
+    fn take_four(&self, t: Keeper, first: FirstPair, q: u32) -> Keeper
+        requires { q < 32 }
+        ensures { (f : ℕ → ℤ) → ((k : ℕ) → 4 * q ≤ k → k < 4 * q + 4 → f k ≡ figure_from self.now.sums self.now.leasts first.sum first.least k) → KeptUpTo f (4 * q) t → KeptUpTo f (4 * q + 4) result }
+    {
+        let k = 4 * q;
+        let i = k as usize;
+        let t1 = t.take(self.figure(first, i), k);
+        let t2 = t1.take(self.figure(first, i + 1), k + 1);
+        let t3 = t2.take(self.figure(first, i + 2), k + 2);
+        t3.take(self.figure(first, i + 3), k + 3)
+    }
 }
 
-// The two largest of all, from the codes. The tables are laid out once.
-fn largest_of(codes: &[u64; 48]) -> Keeper
-    requires { (j : ℕ) → get_or codes.now j 0 ≤ widest }
-    ensures { KeptUpTo (figure_at codes.now) classes result }
-{
-    let sums = pair_sums(codes);
-    let leasts = pair_leasts(codes);
-    let middle = MIDDLE;
-    let last = LAST;
-    let mut t = Keeper {
-        best: -9223372036854775808,
-        second: -9223372036854775808,
-        at: 0,
-    };
-    for q in 0..32 {
-        let i = q as usize;
-        let x = codes[i / 4];
-        let y = codes[8 + i / 16 * 4 + i % 4];
-        let first = FirstPair {
+// The codes of all 48 sums.
+#[derive(Drop)]
+struct SumCodes {
+    values: [u64; 48],
+    ghost small: { (j : ℕ) → get_or values j 0 ≤ widest },
+}
+
+impl SumCodes {
+    fn of_sums(sums: &ColumnSums) -> Self
+        ensures { Codes sums.now.values result.values }
+    {
+        let mut values = [0; 48];
+        for (n, v) in sums.values.iter().enumerate() {
+            values[n] = coded(*v);
+        }
+        SumCodes { values }
+    }
+
+    // The first two columns of the four classes from 4 q on, with their parity.
+    fn first_pair(&self, q: usize) -> FirstPair
+        requires { q < 32 }
+        ensures sum { result.sum ≡ get_or self.now.values (q / 4) 0 + get_or self.now.values (8 + q / 16 * 4 + q % 4) 0 + q / 16 }
+        ensures least { result.least ≡ min (get_or self.now.values (q / 4) 0) (get_or self.now.values (8 + q / 16 * 4 + q % 4) 0) }
+    {
+        let x = self.values[q / 4];
+        let y = self.values[8 + q / 16 * 4 + q % 4];
+        FirstPair {
             sum: x + y + (q / 16) as u64,
             least: smaller(x, y),
-        };
-        t = take_four(t, &sums, &leasts, &middle, &last, first, q);
+        }
     }
-    t
+
+    // The two largest of all figures.
+    fn largest(&self) -> Keeper
+        ensures { KeptUpTo (figure_at self.now.values) classes result }
+    {
+        let others = OtherPairs::of_codes(self);
+        let mut t = Keeper {
+            best: i64::MIN,
+            second: i64::MIN,
+            at: 0,
+        };
+        for q in 0..32 {
+            t = others.take_four(t, self.first_pair(q as usize), q);
+        }
+        t
+    }
 }
 
 // The two largest figures of the classes, and the class of the largest: the first of them where they share it.
 pub fn largest_figures(sums: &ColumnSums) -> Keeper
     ensures { Kept (run (reached_from sums.now.values) classes) result }
 {
-    let codes = codes(sums);
-    largest_of(&codes)
+    SumCodes::of_sums(sums).largest()
 }

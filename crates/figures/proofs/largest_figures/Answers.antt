@@ -3,4 +3,4 @@ use Rattle.figures.proofs.Reaching.{kept-reached}
 use Rattle.figures.proofs.largest_figures.Goals as goal
 
 pub returns : goal.returns
-returns c = kept-reached c.codes-codes.ensures c.largest_of.ensures
+returns c = kept-reached c.of_sums.ensures c.largest.ensures

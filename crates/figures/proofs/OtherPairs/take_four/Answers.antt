@@ -1,6 +1,6 @@
 -- Four steps of the keeper.
 use Rattle.figures.proofs.Keeping.{took, kept-four}
-use Rattle.figures.proofs.take_four.Goals as goal
+use Rattle.figures.proofs.OtherPairs.take_four.Goals as goal
 
 pub returns : goal.returns
 returns c f is K =
