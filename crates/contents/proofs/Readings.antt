@@ -45,21 +45,12 @@ module _ (made xs : List ℤ) (same : length made ≡ length xs) where
 
 -- the word that four bytes from a place on hold
 module _ (bytes : List ℕ) (from : ℕ) (h : from + 4 ≤ length bytes) where
-  four-at :
+  pub four-at :
       get_or bytes from 0 * 0x100_0000 + get_or bytes (from + 1) 0 * 0x1_0000 + get_or bytes (from + 2) 0 * 0x100 + get_or bytes (from + 3) 0
       ≡ word_of (take 4 (drop from bytes))
   four-at =
       let l : 4 ≤ length (drop from bytes) = simp length-drop (omega arith) in
       simp (get_or-drop, add-zero) at (four-front (drop from bytes) l)
-
-  pub four-word :
-      {a b c d : ℕ}
-      → a ≡ get_or bytes from 0
-      → b ≡ get_or bytes (from + 1) 0
-      → c ≡ get_or bytes (from + 2) 0
-      → d ≡ get_or bytes (from + 3) 0
-      → a * 0x100_0000 + b * 0x1_0000 + c * 0x100 + d ≡ word_of (take 4 (drop from bytes))
-  four-word p q r s = (λ i. p i * 0x100_0000 + q i * 0x1_0000 + r i * 0x100 + s i) ∙ four-at
 
 -- the word that two bytes from a place on hold
 two-front : (l : List ℕ) → 2 ≤ length l → get_or l 0 0 * 0x100 + get_or l 1 0 ≡ word_of (take 2 l)

@@ -6,34 +6,23 @@ ghost use Rattle.code.specs.Code.{positions};
 ghost use Rattle.golay.specs.Bytes.{word_of};
 ghost use Rattle.records.specs.Records.{twos_complement, confidence_of, confidences_of, stands_at, number_of, reading_of};
 
-use golay::wide;
 use records::kinds::Stands;
 use records::{OLD_RECORD, stands_at};
 
 // The 24 confidences.
 const READING: usize = 96;
 
-// An i32 that holds the bits of a u32.
-fn twos_complement(word: u32) -> i32
-    ensures { result ≡ twos_complement word }
-{
-    if word < 0x8000_0000 {
-        word as i32
-    } else {
-        -1 - (0xFFFF_FFFF - word) as i32
-    }
-}
-
 // The confidence that four bytes from a place on hold.
 fn confidence(bytes: &[u8], from: usize) -> i32
     requires { from + 4 ≤ length bytes.now }
     ensures { result ≡ confidence_of (drop from bytes.now) }
 {
-    let a = wide(bytes[from]);
-    let b = wide(bytes[from + 1]);
-    let c = wide(bytes[from + 2]);
-    let d = wide(bytes[from + 3]);
-    twos_complement(a * 0x100_0000 + b * 0x1_0000 + c * 0x100 + d)
+    i32::from_be_bytes([
+        bytes[from],
+        bytes[from + 1],
+        bytes[from + 2],
+        bytes[from + 3],
+    ])
 }
 
 // The 24 confidences from a place on.
@@ -65,9 +54,7 @@ fn number_from(bytes: &[u8], from: usize) -> Option<u16>
     requires { from + 2 ≤ length bytes.now }
     ensures { result ≡ Some (word_of (take 2 (drop from bytes.now))) }
 {
-    let a = wide(bytes[from]);
-    let b = wide(bytes[from + 1]);
-    Some((a * 0x100 + b) as u16)
+    Some(u16::from_be_bytes([bytes[from], bytes[from + 1]]))
 }
 
 // The number of the record at a place; none where it is an old one, or no whole record stands there.
