@@ -8,6 +8,7 @@ ghost use Rattle.records.specs.Records.{twos_complement, confidence_of, confiden
 
 use records::kinds::Stands;
 use records::{OLD_RECORD, stands_at};
+use std::array;
 
 // The 24 confidences.
 const READING: usize = 96;
@@ -30,13 +31,7 @@ fn reading(bytes: &[u8], from: usize) -> [i32; 24]
     requires { from + 96 ≤ length bytes.now }
     ensures { result ≡ confidences_of positions (drop from bytes.now) }
 {
-    let mut made = [0i32; 24];
-    let mut i = 0;
-    while i < 24 {
-        made[i] = confidence(bytes, from + 4 * i);
-        i += 1;
-    }
-    made
+    array::from_fn(|i| confidence(bytes, from + 4 * i))
 }
 
 // The confidences of the record at a place, which are its last bytes; zeros where no whole record stands there.
@@ -50,11 +45,11 @@ pub fn confidences(bytes: &[u8], at: usize) -> [i32; 24]
 }
 
 // The number that two bytes from a place on hold.
-fn number_from(bytes: &[u8], from: usize) -> Option<u16>
+fn number_from(bytes: &[u8], from: usize) -> u16
     requires { from + 2 ≤ length bytes.now }
-    ensures { result ≡ Some (word_of (take 2 (drop from bytes.now))) }
+    ensures { result ≡ word_of (take 2 (drop from bytes.now)) }
 {
-    Some(u16::from_be_bytes([bytes[from], bytes[from + 1]]))
+    u16::from_be_bytes([bytes[from], bytes[from + 1]])
 }
 
 // The number of the record at a place; none where it is an old one, or no whole record stands there.
@@ -62,12 +57,7 @@ pub fn number(bytes: &[u8], at: usize) -> Option<u16>
     ensures { result ≡ number_of (stands_at bytes.now at) }
 {
     match stands_at(bytes, at, true) {
-        Stands::Record(next) => {
-            if next - at == OLD_RECORD {
-                return None;
-            }
-            number_from(bytes, at + 2)
-        }
-        Stands::End | Stands::Stopped(_) => None,
+        Stands::Record(next) if next - at != OLD_RECORD => Some(number_from(bytes, at + 2)),
+        _ => None,
     }
 }

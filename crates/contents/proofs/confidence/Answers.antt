@@ -1,5 +1,5 @@
 -- Four bytes hold a word, and the library takes its top bit as the rules do.
-use Rattle.std.proofs.Common.{◌≡◌, ℕ, ◌^◌, ◌<◌, ◌≤◌, Bool, true, false, ltb, get_or, ◌+◌, ◌*◌, ap, ◌∙◌, arith, rules, w8, w32, Fits, to_z, pos, ◌-ℤ◌, refl}
+use Rattle.std.proofs.Common.{◌≡◌, ℕ, ◌^◌, ◌<◌, ◌≤◌, Bool, true, false, ltb, get_or, ◌+◌, ◌*◌, ap, ◌∙◌, arith, rules, w32, to_z, refl}
 use Rattle.std.proofs.lemmas.Int.{ints, to_z-of_z}
 use borrow.Author.Tests.{lt-ltb, le-ltb, ltb-true, ltb-false}
 use Rattle.records.specs.Records.{twos_complement}
