@@ -2,7 +2,7 @@
 use mathlib.Core.Path.{◌≡◌, refl, sym, ◌∙◌}
 use mathlib.Core.Bool.{Bool, true, false}
 use mathlib.Core.List.{List, ◌∷◌}
-use Prim.Native.Nat.{ℕ, ◌+◌, ◌≤◌, ◌<◌}
+use Prim.Native.Nat.{ℕ, ◌+◌, ◌≤◌}
 use native.Mathlib.Numerals.{add-one}
 use native.Mathlib.Omega.{arith}
 use native.Mathlib.Decide.{ℕ_discrete}
@@ -46,7 +46,7 @@ pub took : {g : ℕ → ℤ} {n : ℕ} {t r : Keeper} {v : ℤ} → (v ≡ g n) 
 took a b = let k = rw (reads a.1 (lit< tt)) at b in record { value = a.0; small = a.1; more = k.0; is = k.1 }
 
 -- one more
-kept_next : {f g : ℕ → ℤ} {n m : ℕ} {t r : Keeper} {v : ℤ} → m ≡ n + 1 → f n ≡ g n → Taken g n t v r → KeptUpTo f n t → KeptUpTo f m r
+pub kept_next : {f g : ℕ → ℤ} {n m : ℕ} {t r : Keeper} {v : ℤ} → m ≡ n + 1 → f n ≡ g n → Taken g n t v r → KeptUpTo f n t → KeptUpTo f m r
 kept_next {f} {g} {n} {m} {t} {r} {v} e p T K = rw (e, add-one n) (record { none = λ z. absurd (omega arith); some = λ h. go (ℕ_discrete n 0) })
   where
     at : f n ≡ v
@@ -57,15 +57,6 @@ kept_next {f} {g} {n} {m} {t} {r} {v} e p T K = rw (e, add-one n) (record { none
         let o : r ≡ record { best = v; second = lowest; at = 0 } = T.is ∙ rw (K.none z, z) (taken-first (above_lowest T.small)) in
         rw (at, o, z) (keep-first v 0)
     go (no d) = rw at (T.more (run f n) (K.some (omega arith)))
-
--- four more
-module _ {f g : ℕ → ℤ} {n : ℕ} (is : (k : ℕ) → n ≤ k → k < n + 4 → f k ≡ g k) {t t1 t2 t3 t4 : Keeper} {v0 v1 v2 v3 : ℤ} where
-  pub kept-four : Taken g n t v0 t1 → Taken g (n + 1) t1 v1 t2 → Taken g (n + 2) t2 v2 t3 → Taken g (n + 3) t3 v3 t4
-      → KeptUpTo f n t → KeptUpTo f (n + 4) t4
-  kept-four s0 s1 s2 s3 K =
-      kept_next (omega arith) (is (n + 3) (omega arith) (omega arith)) s3
-      (kept_next (omega arith) (is (n + 2) (omega arith) (omega arith)) s2
-      (kept_next (omega arith) (is (n + 1) (omega arith) (omega arith)) s1 (kept_next refl (is n (omega arith) (omega arith)) s0 K)))
 
 pub two-kept : {f : ℕ → ℤ} {n : ℕ} {t : Keeper} → 2 ≤ n → ((k : ℕ) → Within far (f k)) → Kept (run f n) t → Best f 0 n t.best t.second t.at
 two-kept {f} {n} two w = kept-best f n two (λ k h. let g = above_lowest (w k) in omega ints)

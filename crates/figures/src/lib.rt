@@ -95,16 +95,14 @@ impl OtherPairs {
     }
 
     // The four classes from 4 q on, which have their first two columns in common.
-    fn take_four(&self, t: Keeper, first: FirstPair, q: u32) -> Keeper
+    fn take_four(&self, mut t: Keeper, first: FirstPair, q: u32) -> Keeper
         requires { q < 32 }
         ensures { (f : ℕ → ℤ) → ((k : ℕ) → 4 * q ≤ k → k < 4 * q + 4 → f k ≡ figure_from self.now.sums self.now.leasts first.sum first.least k) → KeptUpTo f (4 * q) t → KeptUpTo f (4 * q + 4) result }
     {
-        let k = 4 * q;
-        let i = k as usize;
-        let t1 = t.take(self.figure(first, i), k);
-        let t2 = t1.take(self.figure(first, i + 1), k + 1);
-        let t3 = t2.take(self.figure(first, i + 2), k + 2);
-        t3.take(self.figure(first, i + 3), k + 3)
+        for k in 4 * q..4 * q + 4 {
+            t = t.take(self.figure(first, k as usize), k);
+        }
+        t
     }
 }
 

@@ -1,16 +1,14 @@
--- Four steps of the keeper.
-use Rattle.figures.proofs.Keeping.{took, kept-four}
+-- A step of the keeper.
+use Rattle.std.proofs.Common.{refl, arith}
+use Rattle.figures.specs.Figures.{figure_from}
+use Rattle.figures.proofs.Keeping.{took, kept_next}
 use Rattle.figures.proofs.OtherPairs.take_four.Goals as goal
 
-pub returns : goal.returns
-returns c f is K =
-    let f1 = c.figure.ensures in
-    let f2 = c.figure-2.ensures in
-    let f3 = c.figure-3.ensures in
-    let f4 = c.figure-4.ensures in
-    kept-four is
-    (took (f1.value, f1.within) (c.take-t1.ensures.kept, c.take-t1.ensures.value))
-    (took (f2.value, f2.within) (c.take-t2.ensures.kept, c.take-t2.ensures.value))
-    (took (f3.value, f3.within) (c.take-t3.ensures.kept, c.take-t3.ensures.value))
-    (took (f4.value, f4.within) (c.take.ensures.kept, c.take.ensures.value))
-    K
+pub loop-k-preserved : goal.loop-k-preserved
+loop-k-preserved c f is K =
+    let P = c.args.self.now in
+    let first = c.args.first in
+    let k = c.loop-k.k in
+    let F = c.figure.ensures in
+    kept_next {g = figure_from P.sums P.leasts first.sum first.least} refl (is k (omega arith) (omega arith))
+    (took (F.value, F.within) (c.take-t.ensures.kept, c.take-t.ensures.value)) (c.loop-k.invariant f is K)
