@@ -9,19 +9,25 @@ use lib.IntN.{ℤ}
 use lib.ListN.{length}
 use borrow.Author.Tests.{eq-eqb, ne_eqb}
 use Rattle.code.specs.Code.{positions}
-use Rattle.golay.specs.declared.kinds.Refusal.TheVariants.{WrongLength, MostNegative}
+use Rattle.std.specs.Prelude.{Result, Option, Some, None, ok_or}
+use Rattle.golay.specs.declared.kinds.Codeword.{Codeword}
+use Rattle.golay.specs.declared.kinds.Refusal.{Refusal}
+use Rattle.golay.specs.declared.kinds.Refusal.TheVariants.{WrongLength, MostNegative, Tied}
 use Rattle.golay.specs.Answers.{Answer, accepted, refused}
 use Rattle.golay.specs.Calls.{wrong_length}
-use Rattle.golay.proofs.Decided.{said_once, refuse-once, reason, reason_number}
+use Rattle.golay.proofs.Decided.{answer-once, refuse-once}
 use Rattle.reading.specs.Checks.{most_negative}
 use Rattle.signs.specs.Signs.{sign_word}
 use Rattle.signs.specs.Fillings.{zeros}
 use Rattle.signs.proofs.Fillings.{sign_filling}
-use Rattle.decision.specs.Decision.{Decides}
+use Rattle.decision.specs.Decision.{decision_answer, Decides}
 use Rattle.decision.proofs.Decided.{decides_one, decided-same}
-use Rattle.quick.specs.declared.kinds.QuickAnswer.{QuickAnswer}
-use Rattle.quick.specs.declared.kinds.QuickAnswer.TheVariants as quick
 use Rattle.quick.specs.Quick.{quick_answer, Settles, settled, unsettled, Answers, QuickRule}
+
+-- a tied word is refused with 6
+pub tied_refused : (d : Option Codeword) → quick_answer (ok_or d Tied) ≡ decision_answer d
+tied_refused (Some c) = refl
+tied_refused None = refl
 
 module _ (xs : List ℤ) where
   pub quick-length : (length xs ≡ 24 → ⊥) → QuickRule xs (refused 1)
@@ -64,14 +70,6 @@ pub quick-once : (xs : List ℤ) (a b : Answer ℕ) → QuickRule xs a → Quick
 unfolding QuickRule
 quick-once xs = refuse-once WrongLength (wrong_length positions xs) (refuse-once MostNegative (most_negative xs) (answers_one (zeros xs) xs))
 
-again : Answer ℕ → QuickAnswer
-again (accepted x) = quick.Accepted (record { 0 = x })
-again (refused n) = quick.Refused (reason n)
-
-back : (r : QuickAnswer) → again (quick_answer r) ≡ r
-unfolding again
-back (quick.Accepted c) = refl
-back (quick.Refused r) = ap quick.Refused (reason_number r)
-
-pub quick-decided : (xs : List ℤ) (x y : QuickAnswer) → QuickRule xs (quick_answer x) → QuickRule xs (quick_answer y) → x ≡ y
-quick-decided xs x y p q = said_once quick_answer again back x y (quick-once xs (quick_answer x) (quick_answer y) p q) refl
+pub quick-decided : (xs : List ℤ) (x y : Result Codeword Refusal) → QuickRule xs (quick_answer x) → QuickRule xs (quick_answer y) → x ≡ y
+quick-decided xs x y p q =
+    answer-once (λ codeword. codeword.0) (λ n. record { 0 = n }) (λ c. refl) x y (quick-once xs (quick_answer x) (quick_answer y) p q) refl

@@ -1,21 +1,20 @@
 -- Rules 9.1, 9.7 and 9.8: the quick decoder: what the fillings of a reading are decided for.
-use Rattle.std.specs.Prelude.{◌≡◌, Bool, true, false, List, ℕ, zero, suc, ◌+◌, ◌≤◌, ℤ}
+use Rattle.std.specs.Prelude.{◌≡◌, Bool, true, false, List, ℕ, zero, suc, ◌+◌, ◌≤◌, ℤ, Result}
 use Rattle.code.specs.Code.{positions}
+use Rattle.golay.specs.declared.kinds.Codeword.{Codeword}
+use Rattle.golay.specs.declared.kinds.Refusal.{Refusal}
 use Rattle.golay.specs.declared.kinds.Refusal.TheVariants.{WrongLength, MostNegative, Unsettled}
 use Rattle.golay.specs.Refusals.{number}
-use Rattle.golay.specs.Answers.{Answer, accepted, refused, Refuse}
+use Rattle.golay.specs.Answers.{Answer, accepted, refused, Refuse, answer_of}
 use Rattle.golay.specs.Calls.{wrong_length}
 use Rattle.reading.specs.Checks.{most_negative}
 use Rattle.signs.specs.Signs.{sign_word}
 use Rattle.signs.specs.Fillings.{zeros, zero_word, Filling}
 use Rattle.decision.specs.Decision.{Decides}
-use Rattle.quick.specs.declared.kinds.QuickAnswer.{QuickAnswer}
-use Rattle.quick.specs.declared.kinds.QuickAnswer.TheVariants as quick
 
 -- Rules 9.1 and 15.5: a codeword and nothing else, or the number
-abbrev pub quick_answer : QuickAnswer → Answer ℕ
-quick_answer (quick.Accepted codeword) = accepted codeword.0
-quick_answer (quick.Refused reason) = refused (number reason)
+abbrev pub quick_answer : Result Codeword Refusal → Answer ℕ
+quick_answer r = answer_of (λ codeword. codeword.0) r
 
 -- Rule 9.8: there are four zeros or fewer, and every filling is decided for c
 pub record Settled (xs : List ℤ) (c : ℕ) : Type 0 where

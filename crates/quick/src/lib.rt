@@ -1,36 +1,21 @@
 // The quick decoder, there to be compared with: what the fillings of a reading are decided for. The soft decoder may answer otherwise (rule 9.6).
 #![tactic(auto)]
 
-ghost use Rattle.std.specs.Prelude.{◌≡◌, ◌%◌};
-ghost use Rattle.code.specs.Code.{positions, words};
-ghost use Rattle.signs.specs.Signs.{whole, sign_word};
-ghost use Rattle.decision.specs.Decision.{Decides};
+ghost use Rattle.code.specs.Code.{positions};
+ghost use Rattle.signs.specs.Signs.{whole};
 ghost use Rattle.quick.specs.Quick.{quick_answer, Settles, QuickRule, Highest, AllGive};
 
-pub mod kinds;
-
-use decision::kinds::Decision;
 use golay::POSITIONS;
-use golay::kinds::Refusal;
-use kinds::QuickAnswer;
-
-// What a word is decided for, as an answer. Refuses 6.
-fn answer(word: u32, reading: &[i32]) -> QuickAnswer
-    ensures { Decides (word % words) (whole positions reading.now) (quick_answer result) }
-{
-    match decision::decide(word, reading) {
-        Decision::For(codeword) => QuickAnswer::Accepted(codeword),
-        Decision::Tied => QuickAnswer::Refused(Refusal::Tied),
-    }
-}
+use golay::kinds::{Codeword, Refusal};
 
 // Whether every filling is decided for a codeword, given the least one, the places of the zeros, and that the highest, which has a 1 at each of
 // them, is. The others follow in descending order: one less, of which the bits at the places are kept, is the next lower subset of them.
-fn all_give(codeword: u32, least: u32, places: u32, reading: &[i32]) -> bool
-    requires { Highest codeword least places (whole positions reading.now) }
-    ensures { AllGive codeword (whole positions reading.now) result }
+fn all_give(codeword: Codeword, least: u32, places: u32, reading: &[i32]) -> bool
+    requires { Highest codeword.0 least places (whole positions reading.now) }
+    ensures { AllGive codeword.0 (whole positions reading.now) result }
 {
     let mut ones = places;
+    // Stays: the loop counts no index; each turn's subset is made from the last one, and no range or slice holds them.
     while ones > 0 {
         ones = (ones - 1) & places;
         if !decision::gives(codeword, least + ones, reading) {
@@ -40,39 +25,35 @@ fn all_give(codeword: u32, least: u32, places: u32, reading: &[i32]) -> bool
     true
 }
 
-// What the fillings of a reading with zeros are decided for, given the least one, which has a 0 at each zero. Refuses 14.
-fn fillings(least: u32, reading: &[i32]) -> QuickAnswer
-    requires { least ≡ sign_word (whole positions reading.now) }
+// What the fillings of a reading with zeros are decided for. The least of them, the word of signs, has a 0 at each zero. Refuses 14.
+fn fillings(reading: &[i32]) -> Result<Codeword, Refusal>
     ensures { Settles (whole positions reading.now) (quick_answer result) }
 {
+    let least = signs::sign_word(reading);
     let places = signs::zero_word(reading);
     if golay::ones(places) > 4 {
-        return QuickAnswer::Refused(Refusal::Unsettled);
+        return Err(Refusal::Unsettled);
     }
-    match decision::decide(least + places, reading) {
-        Decision::For(codeword) => {
-            if all_give(codeword.0, least, places, reading) {
-                QuickAnswer::Accepted(codeword)
-            } else {
-                QuickAnswer::Refused(Refusal::Unsettled)
-            }
-        }
-        Decision::Tied => QuickAnswer::Refused(Refusal::Unsettled),
+    let codeword = decision::decide(least + places, reading).ok_or(Refusal::Unsettled)?;
+    if all_give(codeword, least, places, reading) {
+        Ok(codeword)
+    } else {
+        Err(Refusal::Unsettled)
     }
 }
 
 // The quick decoder's codeword (rules 9.7 and 9.8). Refuses 1, then 2, then 6 for a reading without zeros and 14 for one with zeros.
-pub fn quick(reading: &[i32]) -> QuickAnswer
+pub fn quick(reading: &[i32]) -> Result<Codeword, Refusal>
     ensures { QuickRule reading.now (quick_answer result) }
 {
     if reading.len() != POSITIONS {
-        return QuickAnswer::Refused(Refusal::WrongLength);
+        return Err(Refusal::WrongLength);
     }
     if signs::clear(reading) {
-        return answer(signs::sign_word(reading), reading);
+        return decision::decide(signs::sign_word(reading), reading).ok_or(Refusal::Tied);
     }
     if reading::most_negative(reading) {
-        return QuickAnswer::Refused(Refusal::MostNegative);
+        return Err(Refusal::MostNegative);
     }
-    fillings(signs::sign_word(reading), reading)
+    fillings(reading)
 }

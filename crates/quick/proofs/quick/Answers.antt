@@ -1,12 +1,12 @@
--- The contracts of `answer` and of `fillings`, of a reading that is whole.
+-- The contracts of `decide` and of `fillings`, of a reading that is whole.
 -- Assumes nothing.
 use Rattle.std.proofs.Common.{◌∙◌, ap, sym, subst, List, ℕ, ℤ}
 use native.Mathlib.Nat.{mod-eq_of_lt}
 use Rattle.signs.specs.Signs.{whole, sign_word}
 use Rattle.signs.proofs.Whole.{whole-itself}
-use Rattle.decision.specs.Decision.{Decides}
-use Rattle.quick.specs.Quick.{quick_answer, Settles}
-use Rattle.quick.proofs.Rules.{quick-length, quick-negative, quick-signs, quick_settles}
+use Rattle.decision.specs.Decision.{decision_answer, Decides}
+use Rattle.quick.specs.Quick.{quick_answer, Settles, QuickRule}
+use Rattle.quick.proofs.Rules.{tied_refused, quick-length, quick-negative, quick-signs, quick_settles}
 use Rattle.quick.proofs.quick.Goals as goal
 
 pub returns-then-reading-ne-POSITIONS : goal.returns-then-reading-ne-POSITIONS
@@ -18,9 +18,11 @@ returns-then-clear c =
     let l = c.if-reading-ne-POSITIONS.false in
     let w = whole-itself 24 xs l in
     let e = mod-eq_of_lt c.sign_word.ensures.1 ∙ c.sign_word.ensures.0 ∙ ap sign_word w in
-    let a = quick_answer c.answer.result in
-    quick-signs xs l (c.clear.ensures.valid c.if-clear.true) a (c.clear.ensures.none c.if-clear.true)
-    (subst (λ (ys : List ℤ). Decides (sign_word xs) ys a) w (subst (λ (n : ℕ). Decides n (whole 24 xs) a) e c.answer.ensures))
+    let a = decision_answer c.decide.result in
+    let o = c.ok_or.ensures in
+    subst (QuickRule xs) (sym (tied_refused c.decide.result) ∙ ap quick_answer (sym o.value))
+    (quick-signs xs l (c.clear.ensures.valid c.if-clear.true) a (c.clear.ensures.none c.if-clear.true)
+    (subst (λ (ys : List ℤ). Decides (sign_word xs) ys a) w (subst (λ (n : ℕ). Decides n (whole 24 xs) a) e c.decide.ensures)))
 
 pub returns-then-most_negative : goal.returns-then-most_negative
 returns-then-most_negative c =
