@@ -35,12 +35,16 @@ pub fn larger_reserve(first: SoftAnswer, second: SoftAnswer) -> Choice
 }
 
 // The number of a choice (rule 17.4).
-pub fn receiver_number(choice: Choice) -> u8
-    ensures { result ≡ receiver choice }
-{
-    match choice {
-        Choice::First => 1,
-        Choice::Second => 2,
-        Choice::Neither => 0,
+impl From<Choice> for u8 {
+    ghost from_gives = { λ choice n. n ≡ receiver choice };
+
+    fn from(choice: Choice) -> u8
+        ensures { result ≡ receiver choice }
+    {
+        match choice {
+            Choice::First => 1,
+            Choice::Second => 2,
+            Choice::Neither => 0,
+        }
     }
 }

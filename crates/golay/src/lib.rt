@@ -21,13 +21,6 @@ pub const MESSAGES: u32 = 4_096;
 // A word is a number below this.
 pub const WORDS: u32 = 16_777_216;
 
-// A byte, wide enough to be multiplied.
-pub fn wide(byte: u8) -> u32
-    ensures { (result ≡ byte) × (result < 256) }
-{
-    u32::from(byte)
-}
-
 // The number of a refusal (rule 11.1).
 impl From<Refusal> for u8 {
     ghost from_gives = { λ reason n. n ≡ number reason };
