@@ -1,7 +1,7 @@
 // Messages, codewords and syndromes. Each call answers for every input, and its promise decides the whole answer.
 #![tactic(auto)]
 
-ghost use Rattle.std.specs.Prelude.{◌≡◌, ◌<◌};
+ghost use Rattle.std.specs.Prelude.{◌≡◌};
 ghost use Rattle.binary.specs.Words as binary;
 ghost use Rattle.golay.specs.Refusals.{number};
 ghost use Rattle.golay.specs.Answers.{encode_answer, read_answer, syndrome_answer, distance_answer};
