@@ -6,6 +6,8 @@ ghost use Rattle.code.specs.Code.{positions};
 ghost use Rattle.golay.specs.Bytes.{word_of};
 ghost use Rattle.records.specs.Records.{twos_complement, confidence_of, confidences_of, stands_at, number_of, reading_of};
 
+pub mod walk;
+
 use records::kinds::Stands;
 use records::{OLD_RECORD, stands_at};
 use std::array;
