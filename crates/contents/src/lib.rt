@@ -16,6 +16,7 @@ use std::array;
 const READING: usize = 96;
 
 // The confidence that four bytes from a place on hold.
+#[tactic(auto, using(crate::proofs::Readings::confidence_from))]
 fn confidence(bytes: &[u8], from: usize) -> i32
     requires { from + 4 ≤ length bytes.now }
     ensures { result ≡ confidence_of (drop from bytes.now) }
