@@ -1,9 +1,9 @@
 // What two readings are compared to.
 
-// The receiver with the better reading, or neither (rule 17.4); specs/Choices.antt gives each its number.
+// The receiver with the better reading, or neither (rule 17.4), each with its number.
 #[derive(Clone, Copy, Debug, PartialEq, Eq)]
 pub enum Choice {
-    First,
-    Second,
-    Neither,
+    First = 1,
+    Second = 2,
+    Neither = 0,
 }

@@ -41,10 +41,6 @@ impl From<Choice> for u8 {
     fn from(choice: Choice) -> u8
         ensures { result ≡ receiver choice }
     {
-        match choice {
-            Choice::First => 1,
-            Choice::Second => 2,
-            Choice::Neither => 0,
-        }
+        choice as u8
     }
 }

@@ -28,22 +28,7 @@ impl From<Refusal> for u8 {
     fn from(reason: Refusal) -> u8
         ensures { result ≡ number reason }
     {
-        match reason {
-            Refusal::WrongLength => 1,
-            Refusal::MostNegative => 2,
-            Refusal::MessageAbove => 3,
-            Refusal::WordAbove => 4,
-            Refusal::NotCodeword => 5,
-            Refusal::Tied => 6,
-            Refusal::DistanceFour => 7,
-            Refusal::NotDistanceFour => 8,
-            Refusal::NoMark => 9,
-            Refusal::CutShort => 10,
-            Refusal::ClassAbove => 11,
-            Refusal::CountFull => 12,
-            Refusal::Unsettled => 14,
-            Refusal::NoColumn => 18,
-        }
+        reason as u8
     }
 }
 
