@@ -1,5 +1,5 @@
 -- The most negative number: a list has it exactly where some place does.
-use mathlib.Core.Path.{◌≡◌, refl, sym, ap}
+use mathlib.Core.Path.{◌≡◌, refl, sym}
 use mathlib.Core.Bool.{Bool, true, false, ◌||◌, true≢false}
 use mathlib.Core.List.{List, [], ◌∷◌}
 use Prim.Native.Nat.{ℕ, zero, suc, ◌<◌}
@@ -22,9 +22,6 @@ some-such : (xs : List ℤ) (k : ℕ) → k < length xs → is_most_negative (ge
 some-such [] k h e = absurd (omega arith)
 some-such (x ∷ xs) zero h e = rw e refl
 some-such (x ∷ xs) (suc k) h e = rw (some-such xs k (omega arith) e) (or-true (is_most_negative x))
-
-pub some-negative : (xs : List ℤ) (k : ℕ) → k < length xs → get_or xs k (pos 0) ≡ negsuc 2147483647 → most_negative xs ≡ true
-some-negative xs k h e = some-such xs k h (ap is_most_negative e)
 
 not_negative : (z : ℤ) → Within 2147483647 z → is_most_negative z ≡ false
 not_negative (pos n) w = refl

@@ -1,7 +1,7 @@
 -- One turn of the loops over a reading: a word of marks takes one bit more, and a cost one confidence more.
 -- Assumes nothing.
-use mathlib.Core.Path.{◌≡◌, sym, ap, ◌∙◌}
-use mathlib.Core.Bool.{Bool}
+use mathlib.Core.Path.{◌≡◌, refl, sym, ap, ◌∙◌}
+use mathlib.Core.Bool.{Bool, true, false}
 use mathlib.Core.List.{List, [], ◌∷◌}
 use Prim.Native.Nat.{ℕ, suc, ◌+◌, ◌-◌, ◌*◌, ◌/◌, ◌%◌, ◌^◌, ◌≤◌, ◌<◌}
 use native.Mathlib.Nat.{pow-suc, add-mul, mul_assoc, mul_comm}
@@ -9,21 +9,12 @@ use native.Mathlib.Numerals.{add-one}
 use native.Mathlib.Omega.{arith}
 use lib.IntN.{ℤ, pos, nat_abs}
 use lib.ListN.{length, drop, get_or, length-drop}
-use lib.Pow.{pow_mono}
 use lib.Seq.{drop-cons, drop-length}
-use mir.Syntax.{w64}
-use mir.Val.{to_z, of_z}
-use lib.Dec.{lit<}
-use Rattle.signed.specs.Within.{Within}
-use Rattle.signed.proofs.Locals.{reads}
+use mir.Val.{bool_byte}
 use Rattle.contest.specs.Words.{one}
 use Rattle.contest.proofs.Numbers.{one_small}
 use Rattle.signs.specs.Signs.{marked, cost, whole}
 use Rattle.signs.proofs.Whole.{whole-itself, whole-none}
-
--- a widened confidence, as the next call reads it
-pub wide_read : {z x : ℤ} → (z ≡ x) × Within 2147483648 z → to_z w64 (of_z w64 z) ≡ x
-wide_read w = reads w.1 (lit< tt) ∙ w.0
 
 -- what is left after i, its first taken off
 left_cons : (xs : List ℤ) (i : ℕ) → i < length xs → drop i xs ≡ get_or xs i (pos 0) ∷ drop (i + 1) xs
@@ -34,6 +25,11 @@ nothing_left : (xs : List ℤ) (i : ℕ) → i ≡ length xs → drop i xs ≡ [
 nothing_left xs i e = ap (λ (k : ℕ). drop k xs) e ∙ drop-length xs
 
 -- ---- a word of marks
+
+-- a mark as a number, as the library has it
+pub byte_one : (b : Bool) → bool_byte b ≡ one b
+byte_one true = refl
+byte_one false = refl
 
 doubled : (w p : ℕ) → w * (p * 2) ≡ 2 * w * p
 doubled w p = sym (mul_assoc w p 2) ∙ mul_comm (w * p) 2 ∙ sym (mul_assoc 2 w p)
@@ -64,10 +60,6 @@ module _ {test : ℤ → Bool} {n : ℕ} {xs : List ℤ} where
   begun l = record { long = l; within = omega arith; short = omega arith; rest = omega arith }
 
   module _ {word i : ℕ} (B : Begun test n xs word i) where
-    -- a word of fewer than n bits leaves room for one more
-    pub begun_room : i < n → word < 2 ^ (n - 1)
-    begun_room h = let k : i ≤ n - 1 = omega arith in omega (arith, B.short, pow_mono k)
-
     pub begun_turn : i < n → {b : ℕ} → b ≡ one (test (get_or xs i (pos 0))) → Begun test n xs (2 * word + b) (i + 1)
     begun_turn h {b} e = record {
       long = B.long;
@@ -77,9 +69,6 @@ module _ {test : ℤ → Bool} {n : ℕ} {xs : List ℤ} where
           ap (λ (x : ℕ). (2 * word + x) * 2 ^ (length xs - (i + 1)) + marked test (drop (i + 1) xs)) e
           ∙ sym (marked_turn test xs i word (omega (arith, B.long))) ∙ B.rest;
     }
-
-    pub begun_fits : i < n → {b : ℕ} → b ≡ one (test (get_or xs i (pos 0))) → 2 * word + b < 2 ^ n
-    begun_fits h e = let k : i + 1 ≤ n = omega arith in omega (arith, (begun_turn h e).short, pow_mono k)
 
     pub begun_end : i ≡ n → (word ≡ marked test (whole n xs)) × (word < 2 ^ n)
     unfolding marked

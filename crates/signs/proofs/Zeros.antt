@@ -2,17 +2,19 @@
 -- Assumes nothing.
 use mathlib.Core.Path.{◌≡◌, refl, sym, ap, ◌∙◌}
 use mathlib.Core.Logic.{◌≢◌}
-use mathlib.Core.Bool.{Bool, true, false}
+use mathlib.Core.Bool.{Bool, true, false, not, ◌||◌, ◌&&◌, true≢false, false≢true}
 use mathlib.Core.List.{List, [], ◌∷◌}
 use Prim.Native.Nat.{ℕ, zero, suc, ◌+◌, ◌^◌, ◌*◌, ◌≤◌, ◌<◌}
 use native.Mathlib.Omega.{arith}
 use native.Mathlib.Nat.{one-mul, zero-mul, pow-suc}
 use lib.IntN.{ℤ, pos, negsuc}
-use lib.ListN.{length, get_or}
+use lib.ListN.{length}
+use Rattle.std.specs.List.{list_all}
 use Rattle.binary.specs.Words.{ones}
 use Rattle.binary.proofs.Ones.{ones_zero}
 use Rattle.binary.proofs.Places.{ones-top}
 use Rattle.contest.specs.Words.{one}
+use Rattle.reading.specs.Checks.{is_most_negative, most_negative}
 use Rattle.signs.specs.Signs.{marked}
 use Rattle.signs.specs.Fillings.{is_zero, zeros, zero_word, Clear}
 
@@ -21,24 +23,48 @@ zero_is (pos zero) e = refl
 zero_is (pos (suc n)) e = let z : ◌≡◌ {A = ℕ} 0 1 = cc in let f : ⊥ = omega arith in absurd f
 zero_is (negsuc n) e = let z : ◌≡◌ {A = ℕ} 0 1 = cc in let f : ⊥ = omega arith in absurd f
 
-pub not_zero : (x : ℤ) → x ≢ pos 0 → is_zero x ≡ false
-not_zero (pos zero) n = absurd (n refl)
-not_zero (pos (suc m)) n = refl
-not_zero (negsuc m) n = refl
-
 pub other_than_zero : (x : ℤ) → is_zero x ≡ false → x ≢ pos 0
 other_than_zero x e z = let y : ◌≡◌ {A = Bool} true false = sym (ap is_zero z) ∙ e in let w : ◌≡◌ {A = ℕ} 0 1 = cc in omega arith
 
-pub some_zero : (xs : List ℤ) (k : ℕ) → k < length xs → get_or xs k (pos 0) ≡ pos 0 → 0 < zeros xs
-unfolding zeros
-some_zero [] k h e = let f : ⊥ = omega arith in absurd f
-some_zero (x ∷ xs) zero h e = omega (arith, ap (λ (y : ℤ). one (is_zero y)) e)
-some_zero (x ∷ xs) (suc k) h e = omega (arith, some_zero xs k (omega arith) e)
+-- what is found by asking each one for both
+abbrev has_sign : ℤ → Bool
+has_sign x = not (is_most_negative x || is_zero x)
 
-pub no_zero : (xs : List ℤ) → ((k : ℕ) → k < length xs → get_or xs k (pos 0) ≢ pos 0) → zeros xs ≡ 0
+all-clear : (xs : List ℤ) → list_all has_sign xs ≡ true → (most_negative xs ≡ false) × (zeros xs ≡ 0)
 unfolding zeros
-no_zero [] n = refl
-no_zero (x ∷ xs) n = omega (arith, ap one (not_zero x (n 0 (omega arith))), no_zero xs (λ k h. n (suc k) (omega arith)))
+all-clear [] e = (refl, refl)
+all-clear (x ∷ xs) e = go (is_most_negative x) (is_zero x) (all-clear xs) e
+  where
+    go :
+        (m z : Bool)
+        → (list_all has_sign xs ≡ true → (most_negative xs ≡ false) × (zeros xs ≡ 0))
+        → (not (m || z) && list_all has_sign xs) ≡ true
+        → ((m || most_negative xs) ≡ false) × (one z + zeros xs ≡ 0)
+    go false false f e = let h = f e in (h.0, omega (arith, h.1))
+    go false true f e = absurd (false≢true e)
+    go true z f e = absurd (false≢true e)
+
+some-clear : (xs : List ℤ) → list_all has_sign xs ≡ false → most_negative xs ≡ false → 0 < zeros xs
+unfolding zeros
+some-clear [] e n = absurd (true≢false e)
+some-clear (x ∷ xs) e n = go (is_most_negative x) (is_zero x) (some-clear xs) e n
+  where
+    go :
+        (m z : Bool)
+        → (list_all has_sign xs ≡ false → most_negative xs ≡ false → 0 < zeros xs)
+        → (not (m || z) && list_all has_sign xs) ≡ false
+        → (m || most_negative xs) ≡ false
+        → 0 < one z + zeros xs
+    go false false f e n = omega (arith, f e n)
+    go false true f e n = omega arith
+    go true z f e n = absurd (true≢false n)
+
+pub clear_all : (xs : List ℤ) (r : Bool) → r ≡ list_all has_sign xs → Clear xs r
+clear_all xs r e = record {
+  valid = λ g. (all-clear xs (sym e ∙ g)).0;
+  none = λ g. (all-clear xs (sym e ∙ g)).1;
+  some = λ g n. some-clear xs (sym e ∙ g) n;
+}
 
 -- two allowed answers of the test for both are equal
 pub clear-once : {xs : List ℤ} (a b : Bool) → Clear xs a → Clear xs b → a ≡ b

@@ -2,11 +2,11 @@
 // three are 0.
 #![tactic(auto)]
 
-ghost use Rattle.std.specs.Prelude.{◌≡◌, ◌*◌, ◌/◌, ◌%◌, ◌-◌, ◌^◌, ◌<◌, ◌≤◌, pos, nat_abs, get_or};
-ghost use Rattle.signed.specs.Sign.{sign};
-ghost use Rattle.contest.specs.Words.{one};
+ghost use Rattle.std.specs.Prelude.{◌≡◌, ◌*◌, ◌/◌, ◌%◌, ◌-◌, ◌^◌, ◌<◌, ◌≤◌, ◌||◌, Bool, not, ℤ, nat_abs};
 ghost use Rattle.code.specs.Code.{positions, words};
-ghost use Rattle.signs.specs.Signs.{whole, sign_word};
+ghost use Rattle.reading.specs.Checks.{is_most_negative};
+ghost use Rattle.signs.specs.Tests.{Computes};
+ghost use Rattle.signs.specs.Signs.{marked, whole, sign_word};
 ghost use Rattle.signs.specs.Fillings.{is_zero, zero_word, Clear};
 ghost use Rattle.signs.specs.Signs as rule;
 
@@ -15,85 +15,58 @@ use golay::POSITIONS;
 // How far the first position stands from the last.
 const LAST: usize = POSITIONS - 1;
 
-// 1 for a negative confidence.
-fn sign_bit(reading: &[i32], i: usize) -> u32
-    ensures { result ≡ one (sign (get_or reading.now i (pos 0))) }
+// The word with a one at each confidence for which a test holds, position 1 first.
+fn marked<F: Fn(i32) -> bool>(reading: &[i32], test: F) -> u32
+    requires { F.IsAlwaysCallable test }
+    ensures value { (t : ℤ → Bool) → Computes (F.post test) t → result ≡ marked t (whole positions reading.now) }
+    ensures short { result < words }
 {
-    if signed::negative(signed::widened(reading, i)) {
-        1
-    } else {
-        0
+    if reading.len() != POSITIONS {
+        return 0;
     }
+    let mut word: u32 = 0;
+    for x in reading {
+        word = 2 * word + u32::from(test(*x));
+    }
+    word
 }
 
 // The signs as a word, position 1 first.
 pub fn sign_word(reading: &[i32]) -> u32
     ensures { (result ≡ sign_word (whole positions reading.now)) × (result < words) }
 {
-    if reading.len() != POSITIONS {
-        return 0;
-    }
-    let mut word: u32 = 0;
-    let mut i: usize = 0;
-    while i < POSITIONS {
-        word = 2 * word + sign_bit(reading, i);
-        i += 1;
-    }
-    word
-}
-
-// 1 for a zero.
-fn zero_bit(reading: &[i32], i: usize) -> u32
-    ensures { result ≡ one (is_zero (get_or reading.now i (pos 0))) }
-{
-    if signed::widened(reading, i) == 0 {
-        1
-    } else {
-        0
-    }
+    marked(reading, |x| x < 0)
 }
 
 // The zeros as a word, position 1 first.
 pub fn zero_word(reading: &[i32]) -> u32
     ensures { (result ≡ zero_word (whole positions reading.now)) × (result < words) }
 {
-    if reading.len() != POSITIONS {
-        return 0;
-    }
-    let mut word: u32 = 0;
-    let mut i: usize = 0;
-    while i < POSITIONS {
-        word = 2 * word + zero_bit(reading, i);
-        i += 1;
-    }
-    word
+    marked(reading, |x| x == 0)
+}
+
+// Whether a confidence has a sign and is not the most negative number.
+fn has_sign(x: i32) -> bool
+    ensures { result ≡ not (is_most_negative x || is_zero x) }
+{
+    x != i32::MIN && x != 0
 }
 
 // Whether each confidence has a sign and none is the most negative number: one test for both, since most readings pass it.
 pub fn clear(reading: &[i32]) -> bool
     ensures { Clear reading.now result }
 {
-    let mut i: usize = 0;
-    while i < reading.len() {
-        if reading[i] == -2_147_483_648 {
-            return false;
-        }
-        if reading[i] == 0 {
-            return false;
-        }
-        i += 1;
-    }
-    true
+    reading.iter().all(|x| has_sign(*x))
 }
 
 // The size of the confidence at i where the error has a one there, else 0.
-fn at_stake(error: u32, reading: &[i32], i: usize) -> u64
+fn at_stake(error: u32, i: usize, x: i32) -> u64
     requires { i < positions }
-    ensures { (result ≡ error / 2 ^ (positions - 1 - i) % 2 * nat_abs (get_or reading.now i (pos 0))) × (result ≤ 2147483648) }
+    ensures { (result ≡ error / 2 ^ (positions - 1 - i) % 2 * nat_abs x) × (result ≤ 2147483648) }
 {
     let shift = LAST - i;
     if (error >> shift) % 2 == 1 {
-        signed::size(signed::widened(reading, i))
+        u64::from(x.unsigned_abs())
     } else {
         0
     }
@@ -107,10 +80,8 @@ pub fn cost(error: u32, reading: &[i32]) -> u64
         return 0;
     }
     let mut sum: u64 = 0;
-    let mut i: usize = 0;
-    while i < POSITIONS {
-        sum += at_stake(error, reading, i);
-        i += 1;
+    for (i, x) in reading.iter().enumerate() {
+        sum += at_stake(error, i, *x);
     }
     sum
 }

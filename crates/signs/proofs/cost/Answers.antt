@@ -1,6 +1,7 @@
 -- A turn takes one confidence off what is left.
 -- Assumes nothing.
-use Rattle.std.proofs.Common.{◌≡◌, ◌∙◌, sym, ap, ℕ, ◌+◌, ◌-◌, ◌*◌, ◌/◌, ◌%◌, ◌^◌, pos, nat_abs, length, get_or, arith}
+use Rattle.std.proofs.Common.{◌≡◌, ◌∙◌, sym, ap, ℕ, ◌+◌, ◌-◌, ◌*◌, ◌/◌, ◌%◌, ◌^◌, pos, nat_abs, length, get_or, arith, rules, w32, FitsSigned}
+use Rattle.std.proofs.Math.Facts.{to_z-of_z}
 use Rattle.signs.specs.Signs as rule
 use Rattle.signs.proofs.Whole.{whole-itself, whole-none}
 use Rattle.signs.proofs.Turns.{cost-turn, cost_end}
@@ -16,11 +17,11 @@ loop-i-preserved c =
     let l = c.loop-i in
     let xs = c.args.reading.now in
     let e = c.args.error in
-    let taken = c.at_stake-sum.ensures in
+    let f : FitsSigned w32 (get_or xs l.i (pos 0)) = search rules in
+    let taken = rw (to_z-of_z f) at c.at_stake-sum.ensures in
     let long : length xs ≡ 24 = c.if-reading-ne-POSITIONS.false in
     let k : length xs - (l.i + 1) ≡ 23 - l.i = omega arith in
     record {
-      within = omega arith;
       small = omega (arith, taken.1, l.invariant.small);
       rest =
           omega (arith, taken.0, cost-turn e xs l.i (omega arith), ap (λ (n : ℕ). e / 2 ^ n % 2 * nat_abs (get_or xs l.i (pos 0))) k, l.invariant.rest);
