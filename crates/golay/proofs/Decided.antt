@@ -5,6 +5,7 @@ use mathlib.Core.Bool.{Bool, true, false, cond}
 use mathlib.Core.List.{List, [], ◌∷◌}
 use Prim.Native.Nat.{ℕ}
 use lib.Dec.{eqb}
+use Rattle.std.proofs.Common.{rules}
 use Rattle.std.specs.Prelude.{Result, Ok, Err}
 use Rattle.golay.specs.declared.kinds.Refusal.{Refusal}
 use Rattle.golay.specs.declared.kinds.Refusal.TheVariants.{WrongLength, MostNegative, MessageAbove, WordAbove, NotCodeword, Tied, DistanceFour, NotDistanceFour, NoMark, CutShort, ClassAbove, CountFull, Unsettled, NoColumn}
@@ -38,20 +39,7 @@ abbrev pub reason : ℕ → Refusal
 reason n = first reasons n
 
 pub reason_number : (r : Refusal) → reason (number r) ≡ r
-reason_number WrongLength = refl
-reason_number MostNegative = refl
-reason_number MessageAbove = refl
-reason_number WordAbove = refl
-reason_number NotCodeword = refl
-reason_number Tied = refl
-reason_number DistanceFour = refl
-reason_number NotDistanceFour = refl
-reason_number NoMark = refl
-reason_number CutShort = refl
-reason_number ClassAbove = refl
-reason_number CountFull = refl
-reason_number Unsettled = refl
-reason_number NoColumn = refl
+reason_number r = search rules
 
 -- a call's result is made again from the answer that it says, where its kind is made again from its values
 pub again : {T A : Type 0} → (A → T) → Answer A → Result T Refusal

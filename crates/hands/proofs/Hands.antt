@@ -3,29 +3,15 @@
 -- Assumes nothing.
 use mathlib.Core.Path.{◌≡◌, refl, sym, ◌∙◌}
 use Prim.Native.Nat.{ℕ, ◌<◌}
-use lib.Dec.{lit<}
+use Rattle.std.proofs.Common.{rules}
 use Rattle.golay.specs.declared.kinds.Refusal.{Refusal}
-use Rattle.golay.specs.declared.kinds.Refusal.TheVariants.{WrongLength, MostNegative, MessageAbove, WordAbove, NotCodeword, Tied, DistanceFour, NotDistanceFour, NoMark, CutShort, ClassAbove, CountFull, Unsettled, NoColumn}
 use Rattle.golay.specs.Refusals.{number}
 use Rattle.golay.specs.Answers.{Answer, accepted, refused}
 use Rattle.hands.specs.Hands.{HandsBack, HandsBackOne}
 
 -- no refusal has the number 0
 number_above_zero : (reason : Refusal) → 0 < number reason
-number_above_zero WrongLength = lit< tt
-number_above_zero MostNegative = lit< tt
-number_above_zero MessageAbove = lit< tt
-number_above_zero WordAbove = lit< tt
-number_above_zero NotCodeword = lit< tt
-number_above_zero Tied = lit< tt
-number_above_zero DistanceFour = lit< tt
-number_above_zero NotDistanceFour = lit< tt
-number_above_zero NoMark = lit< tt
-number_above_zero CutShort = lit< tt
-number_above_zero ClassAbove = lit< tt
-number_above_zero CountFull = lit< tt
-number_above_zero Unsettled = lit< tt
-number_above_zero NoColumn = lit< tt
+number_above_zero reason = search rules
 
 -- Rule 11.7: a call that answers returns 0, and one that refuses its refusal's number, which is above 0
 module _ {A M : Type 0} {made : A → M} {before after : M} {status : ℕ} where
