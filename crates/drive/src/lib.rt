@@ -1,4 +1,5 @@
 // The entry points for C. Each is a thin call of a room below; include/garthumor.h declares them.
+// Stays: an entry point for each call, which only passes on: the C interface has them, and a static library exports functions of its own crate alone.
 #![tactic(auto)]
 
 ghost use Rattle.golay.specs.Calls.{encode_rule, read_rule, syndrome_rule};

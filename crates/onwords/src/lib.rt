@@ -1,4 +1,5 @@
 // The calls on words, as C is handed them: what a call of a room below answers, as a status and outputs.
+// Stays: calls that differ in the call below and the output alone are a function each: the C interface has a call for each.
 #![tactic(auto)]
 
 ghost use Rattle.golay.specs.Calls.{encode_rule, read_rule, syndrome_rule};
