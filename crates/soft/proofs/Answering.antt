@@ -1,8 +1,7 @@
 -- The answer from the two largest correlations: tied where they are the same, else accepted with half their difference, which is whole.
-use mathlib.Core.Path.{◌≡◌, refl, sym, ap, ◌∙◌}
+use mathlib.Core.Path.{◌≡◌, refl, ap, ◌∙◌}
 use mathlib.Core.List.{List}
 use Prim.Native.Nat.{ℕ, ◌<◌}
-use native.Mathlib.Omega.{arith}
 use lib.IntN.{ℤ, pos, ◌-ℤ◌}
 use lib.Signed.{quot_z, ◌≤ℤ◌, ◌<ℤ◌}
 use Rattle.signed.proofs.Parts.{ints}
@@ -16,10 +15,7 @@ use Rattle.contest.proofs.Decided.{settled, settled-tied}
 use Rattle.contest.proofs.Reserve.{score_size}
 use Rattle.code.specs.Code.{messages, codeword_of}
 use Rattle.golay.specs.declared.kinds.Codeword.{Codeword}
-use Rattle.golay.specs.declared.kinds.EncodeAnswer.{EncodeAnswer}
-use Rattle.golay.specs.declared.kinds.EncodeAnswer.TheVariants as encode
-use Rattle.golay.specs.declared.kinds.Refusal.{Refusal}
-use Rattle.golay.specs.Answers.{encode_answer, refused}
+use Rattle.golay.specs.Answers.{refused}
 use Rattle.golay.specs.Answers as golay
 use Rattle.golay.specs.Calls.{encode_rule}
 use Rattle.golay.proofs.Rules.{encode-within}
@@ -31,18 +27,15 @@ use Rattle.soft.specs.Keepers.{Wide}
 
 -- ---- the codeword of the winner's message
 
-module _ {m : ℕ} (h : m < messages) {r : EncodeAnswer} (e : encode_answer r ≡ encode_rule m) where
-  pub encoded : {w : Codeword} → r ≡ encode.Accepted w → w ≡ record { 0 = codeword_of m }
-  encoded {w} g =
-      let p : golay.accepted w.0 ≡ golay.accepted (codeword_of m) = ap encode_answer (sym g) ∙ e ∙ encode-within m h in
+module _ {m : ℕ} (h : m < messages) where
+  pub encoded : {w : Codeword} → golay.accepted w.0 ≡ encode_rule m → w ≡ record { 0 = codeword_of m }
+  encoded {w} e =
+      let p : golay.accepted w.0 ≡ golay.accepted (codeword_of m) = e ∙ encode-within m h in
       let q : w.0 ≡ codeword_of m = cc in
       ap (λ (n : ℕ). record { 0 = n }) q
 
-  pub not-refused : {A : Type 0} {reason : Refusal} → r ≡ encode.Refused reason → A
-  not-refused g =
-      let p = ap encode_answer (sym g) ∙ e ∙ encode-within m h in
-      let z : ◌≡◌ {A = ℕ} 0 1 = cc in
-      absurd (omega arith)
+  pub not-refused : {A : Type 0} {n : ℕ} → refused n ≡ encode_rule m → A
+  not-refused {A} {n} e = let p : refused n ≡ golay.accepted (codeword_of m) = e ∙ encode-within m h in cc
 
 -- ---- the answer
 

@@ -14,18 +14,16 @@ use Rattle.contest.specs.Answers as contest
 use Rattle.contest.proofs.Bounds.{own_range}
 use Rattle.contest.proofs.Decided.{one_answer, decided}
 use Rattle.code.specs.Code.{messages, positions}
+use Rattle.std.specs.Prelude.{Result}
+use Rattle.golay.specs.declared.kinds.Refusal.{Refusal}
 use Rattle.golay.specs.declared.kinds.Refusal.TheVariants.{WrongLength, MostNegative, ClassAbove}
 use Rattle.golay.specs.Refusals.{number}
 use Rattle.golay.specs.Answers.{Answer, accepted, refused, Refuse}
-use Rattle.golay.proofs.Decided.{said_once, refuse-once, reason, reason_number}
+use Rattle.golay.proofs.Decided.{answer-once, refuse-once}
 use Rattle.classes.specs.Codewords.{word}
 use Rattle.classes.specs.Classes.{class_above}
 use Rattle.classes.proofs.Codewords.{family}
 use Rattle.soft.specs.declared.kinds.Soft.{Soft}
-use Rattle.soft.specs.declared.kinds.SoftAnswer.{SoftAnswer}
-use Rattle.soft.specs.declared.kinds.SoftAnswer.TheVariants as soft
-use Rattle.soft.specs.declared.kinds.ClassFigureAnswer.{ClassFigureAnswer}
-use Rattle.soft.specs.declared.kinds.ClassFigureAnswer.TheVariants as figure
 use Rattle.soft.specs.Answers.{soft_answer, class_figure_answer}
 use Rattle.golay.specs.Calls.{wrong_length}
 use Rattle.reading.specs.Checks.{most_negative}
@@ -67,30 +65,13 @@ pub soft-told : (xs : List ℤ) → length xs ≡ positions → most_negative xs
     → (a : Answer Soft) → SoftRule xs a → a ≡ told xs outcome
 soft-told xs l e o w a r = soft-once xs a (told xs o) r (soft_decides xs l e (record { outcome = o; answers = w; is = refl }))
 
--- ---- of the calls' own answers, which are made again from what they stand for
+-- ---- of the calls' own answers
 
-soft_again : Answer Soft → SoftAnswer
-soft_again (accepted values) = soft.Accepted values
-soft_again (refused n) = soft.Refused (reason n)
+pub soft-decided : (xs : List ℤ) (x y : Result Soft Refusal) → SoftRule xs (soft_answer x) → SoftRule xs (soft_answer y) → x ≡ y
+soft-decided xs x y p q =
+    answer-once (λ values. values) (λ values. values) (λ values. refl) x y (soft-once xs (soft_answer x) (soft_answer y) p q) refl
 
-soft_back : (r : SoftAnswer) → soft_again (soft_answer r) ≡ r
-unfolding soft_again
-soft_back (soft.Accepted values) = refl
-soft_back (soft.Refused r) = ap soft.Refused (reason_number r)
-
-figure_again : Answer ℤ → ClassFigureAnswer
-figure_again (accepted value) = figure.Accepted value
-figure_again (refused n) = figure.Refused (reason n)
-
-figure_back : (r : ClassFigureAnswer) → figure_again (class_figure_answer r) ≡ r
-unfolding figure_again
-figure_back (figure.Accepted value) = refl
-figure_back (figure.Refused r) = ap figure.Refused (reason_number r)
-
-pub soft-decided : (xs : List ℤ) (x y : SoftAnswer) → SoftRule xs (soft_answer x) → SoftRule xs (soft_answer y) → x ≡ y
-soft-decided xs x y p q = said_once soft_answer soft_again soft_back x y (soft-once xs (soft_answer x) (soft_answer y) p q) refl
-
-pub class_figure-decided : (xs : List ℤ) (k : ℕ) (x y : ClassFigureAnswer)
+pub class_figure-decided : (xs : List ℤ) (k : ℕ) (x y : Result ℤ Refusal)
     → ClassFigureRule xs k (class_figure_answer x) → ClassFigureRule xs k (class_figure_answer y) → x ≡ y
 class_figure-decided xs k x y p q =
-    said_once class_figure_answer figure_again figure_back x y (class_figure-once xs k (class_figure_answer x) (class_figure_answer y) p q) refl
+    answer-once (λ value. value) (λ value. value) (λ value. refl) x y (class_figure-once xs k (class_figure_answer x) (class_figure_answer y) p q) refl

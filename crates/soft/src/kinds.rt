@@ -1,5 +1,5 @@
-// What the soft calls answer.
-use golay::kinds::{Codeword, Message, Refusal};
+// What the soft decoder answers.
+use golay::kinds::{Codeword, Message};
 
 // What is accepted (rules 7.1 and 7.2): a message and its codeword, its correlation and its reserve.
 #[derive(Clone, Copy)]
@@ -8,16 +8,4 @@ pub struct Soft {
     pub codeword: Codeword,
     pub correlation: i64,
     pub reserve: i64,
-}
-
-#[derive(Clone, Copy)]
-pub enum SoftAnswer {
-    Accepted(Soft),
-    Refused(Refusal),
-}
-
-#[derive(Clone, Copy)]
-pub enum ClassFigureAnswer {
-    Accepted(i64),
-    Refused(Refusal),
 }
