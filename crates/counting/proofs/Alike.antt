@@ -9,11 +9,10 @@ use lib.IntN.{ℤ}
 use lib.ListN.{length, drop}
 use lib.Seq.{drop_at}
 use borrow.Author.Tests.{le-leb}
+use Rattle.std.specs.Prelude.{Option, None, Some}
 use Rattle.code.specs.Code.{positions}
 use Rattle.golay.specs.Bytes.{word_of}
 use Rattle.golay.specs.Answers.{Answer}
-use Rattle.sequence.specs.declared.kinds.Number.{Number}
-use Rattle.sequence.specs.declared.kinds.Number.TheVariants.{None, Some}
 use Rattle.sequence.specs.Sequence.{previous_after}
 use Rattle.records.specs.Records.{Record, old_length, new_length, length_with, record_length, confidences_of, whole, standing, in_piece}
 use Rattle.records.proofs.Standing.{whole-front}
@@ -26,7 +25,7 @@ use Rattle.counting.specs.Alike.{Kind, old, new, record_bytes, capture_of, Whole
 use Rattle.counting.proofs.Unnumbered.{readings_anywhere}
 
 -- the record that stands at the beginning of its bytes
-abbrev number_in : Kind → Number
+abbrev number_in : Kind → Option ℕ
 number_in old = None
 number_in (new a b) = Some (word_of (a ∷ b ∷ []))
 

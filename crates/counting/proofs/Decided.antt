@@ -9,9 +9,8 @@ use lib.Dec.{leb, eqb, lit≤}
 use lib.ListN.{length, drop}
 use lib.Seq.{length-take-le}
 use borrow.Author.Tests.{leb-true, leb-false, ne_eqb}
+use Rattle.std.specs.Prelude.{Option, None}
 use Rattle.decoding.proofs.Decoding.{a_decoder}
-use Rattle.sequence.specs.declared.kinds.Number.{Number}
-use Rattle.sequence.specs.declared.kinds.Number.TheVariants.{None}
 use Rattle.sequence.specs.Sequence.{previous_after}
 use Rattle.records.specs.Records.{is_old_mark, is_new_mark, Record, old_length, new_length, record_length, Standing, ended, stopped, whole, standing, in_piece}
 use Rattle.records.specs.Capture.{Telling, run_at, run_in, run_from, ending}
@@ -89,7 +88,7 @@ piece_above last left e = rw e at (in_piece_lem last (standing left) (stop_above
 
 -- how a run ended, with its number and without
 came_in :
-    (last : Bool) (fuel : ℕ) (previous : Number) (offset : ℕ) (left : List ℕ)
+    (last : Bool) (fuel : ℕ) (previous : Option ℕ) (offset : ℕ) (left : List ℕ)
     → let c = run_in came last fuel previous offset left in
     let e = run_in ending last fuel previous offset left in
     (c.offset ≡ e.offset) × (e.stopped ≡ not (eqb c.stop 0))
@@ -113,7 +112,7 @@ came_in last (suc fuel) previous offset left =
     cases (whole r) q tail = tail r
 
 pub came-ended :
-    (last : Bool) (previous : Number) (offset : ℕ) (left : List ℕ)
+    (last : Bool) (previous : Option ℕ) (offset : ℕ) (left : List ℕ)
     → let c = run_from came last previous offset left in
     let e = run_from ending last previous offset left in
     (c.offset ≡ e.offset) × (e.stopped ≡ not (eqb c.stop 0))

@@ -6,8 +6,8 @@ use mathlib.Core.List.{List, [], ◌∷◌, ◌++◌}
 use Prim.Native.Nat.{ℕ, ◌-◌}
 use lib.IntN.{ℤ}
 use lib.ListN.{drop}
+use Rattle.std.specs.Prelude.{Option}
 use Rattle.golay.specs.Answers.{Answer}
-use Rattle.sequence.specs.declared.kinds.Number.{Number}
 use Rattle.records.specs.Capture.{run_from, ending}
 use Rattle.pieces.specs.Pieces.{all_pieces, turns_from}
 use Rattle.pieces.proofs.Pieces.{pieces_told}
@@ -32,7 +32,7 @@ module _ (decode : List ℤ → Answer (ℕ × ℕ)) where
 
   -- a turn: the readings of its bytes, and where it did not stop the turns after it, from where it ended
   pub turn-counted :
-      (T : Totals) (previous : Number) (offset : ℕ) (held piece : List ℕ) (pieces : List (List ℕ))
+      (T : Totals) (previous : Option ℕ) (offset : ℕ) (held piece : List ℕ) (pieces : List (List ℕ))
       → let bytes = held ++ piece in
       tallied decode T (turns_from readings previous offset held (piece ∷ pieces))
       ≡ tallied decode (tallied decode T (run_from readings false previous offset bytes))
@@ -44,7 +44,7 @@ module _ (decode : List ℤ → Answer (ℕ × ℕ)) where
       (goes_on (λ number next. turns_from readings number next (drop (next - offset) bytes) pieces) (run_from ending false previous offset bytes))
 
   pub pieces_counted :
-      (T : Totals) (previous : Number) (offset : ℕ) (held : List ℕ) (pieces : List (List ℕ))
+      (T : Totals) (previous : Option ℕ) (offset : ℕ) (held : List ℕ) (pieces : List (List ℕ))
       → tallied decode T (turns_from readings previous offset held pieces)
       ≡ tallied decode T (run_from readings true previous offset (held ++ all_pieces pieces))
   pieces_counted T previous offset held pieces = ap (tallied decode T) (pieces_told readings previous offset held pieces)

@@ -5,7 +5,7 @@ use mathlib.Core.Bool.{Bool}
 use mathlib.Core.List.{List}
 use Prim.Native.Nat.{ℕ, zero, suc, ◌+◌}
 use lib.ListN.{length, drop}
-use Rattle.sequence.specs.declared.kinds.Number.{Number}
+use Rattle.std.specs.Prelude.{Option}
 use Rattle.sequence.specs.Sequence.{previous_after}
 use Rattle.records.specs.Records.{Record, record_length, Standing, ended, stopped, whole, standing, in_piece}
 use Rattle.records.specs.Capture.{Telling, run_at, run_in, run_from}
@@ -14,12 +14,12 @@ use Rattle.counting.specs.Reports.{readings, came}
 -- what is told goes by no previous number, and is the same at two offsets that count as the same
 pub record Unnumbered {A : Type 0} (t : Telling A) (Same : ℕ → ℕ → Type 0) : Type 0 where
   pub further : (n i j : ℕ) → Same i j → Same (i + n) (j + n)
-  pub at_end_lem : (p q : Number) (i j : ℕ) → Same i j → t.at_end p i ≡ t.at_end q j
-  pub at-stop : (n : ℕ) (p q : Number) (i j : ℕ) → Same i j → t.at_stop n p i ≡ t.at_stop n q j
-  pub at_record_lem : (p q : Number) (r : Record) (later : A) → t.at_record p r later ≡ t.at_record q r later
+  pub at_end_lem : (p q : Option ℕ) (i j : ℕ) → Same i j → t.at_end p i ≡ t.at_end q j
+  pub at-stop : (n : ℕ) (p q : Option ℕ) (i j : ℕ) → Same i j → t.at_stop n p i ≡ t.at_stop n q j
+  pub at_record_lem : (p q : Option ℕ) (r : Record) (later : A) → t.at_record p r later ≡ t.at_record q r later
 
 module _ {A : Type 0} {t : Telling A} {Same : ℕ → ℕ → Type 0} (U : Unnumbered t Same) (last : Bool) where
-  in_any : (fuel : ℕ) (p q : Number) (i j : ℕ) → Same i j → (left : List ℕ) → run_in t last fuel p i left ≡ run_in t last fuel q j left
+  in_any : (fuel : ℕ) (p q : Option ℕ) (i j : ℕ) → Same i j → (left : List ℕ) → run_in t last fuel p i left ≡ run_in t last fuel q j left
   unfolding run_in
   in_any zero p q i j h left = U.at_end_lem p q i j h
   in_any (suc fuel) p q i j h left =
@@ -28,7 +28,7 @@ module _ {A : Type 0} {t : Telling A} {Same : ℕ → ℕ → Type 0} (U : Unnum
       let n = record_length r in
       in_any fuel (previous_after p r.number) (previous_after q r.number) (i + n) (j + n) (U.further n i j h) (drop n left))
     where
-      later : Number → ℕ → Record → A
+      later : Option ℕ → ℕ → Record → A
       later number k r = run_in t last fuel (previous_after number r.number) (k + record_length r) (drop (record_length r) left)
 
       cases : (s : Standing Record)
@@ -38,12 +38,12 @@ module _ {A : Type 0} {t : Telling A} {Same : ℕ → ℕ → Type 0} (U : Unnum
       cases (stopped n) tail = U.at-stop n p q i j h
       cases (whole r) tail = U.at_record_lem p q r (later p i r) ∙ ap (t.at_record q r) (tail r)
 
-  after_any : (p q : Number) (i j : ℕ) → Same i j → (left : List ℕ) → run_from t last p i left ≡ run_from t last q j left
+  after_any : (p q : Option ℕ) (i j : ℕ) → Same i j → (left : List ℕ) → run_from t last p i left ≡ run_from t last q j left
   after_any p q i j h left = in_any (length left) p q i j h left
 
 -- the readings of a capture, and how its run ended
 pub readings_anywhere :
-    (last : Bool) (p q : Number) (i j : ℕ) (left : List ℕ) → run_from readings last p i left ≡ run_from readings last q j left
+    (last : Bool) (p q : Option ℕ) (i j : ℕ) (left : List ℕ) → run_from readings last p i left ≡ run_from readings last q j left
 readings_anywhere last p q i j left =
     after_any {Same = λ i j. Unit {0}}
     (record {
@@ -54,7 +54,7 @@ readings_anywhere last p q i j left =
     })
     last p q i j tt left
 
-pub came_after_any : (last : Bool) (p q : Number) (offset : ℕ) (left : List ℕ) → run_from came last p offset left ≡ run_from came last q offset left
+pub came_after_any : (last : Bool) (p q : Option ℕ) (offset : ℕ) (left : List ℕ) → run_from came last p offset left ≡ run_from came last q offset left
 came_after_any last p q offset left =
     after_any {Same = λ i j. i ≡ j}
     (record {

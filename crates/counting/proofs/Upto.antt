@@ -9,9 +9,11 @@ use native.Mathlib.Nat.{add-zero}
 use native.Mathlib.Omega.{arith}
 use lib.IntN.{ℤ}
 use lib.ListN.{length, drop}
+use Rattle.std.specs.Prelude.{Option, None, Some, MatchOption}
 use Rattle.golay.specs.Answers.{Answer}
+use Rattle.golay.specs.Refusals.{number}
+use Rattle.golay.specs.declared.kinds.Refusal.{Refusal}
 use Rattle.decoding.specs.Decoding.{Decoder}
-use Rattle.sequence.specs.declared.kinds.Number.{Number}
 use Rattle.sequence.specs.Sequence.{previous_after}
 use Rattle.records.specs.Records.{ended, stopped, whole, stands_at, in_piece, next_from, number_of, reading_of}
 use Rattle.records.specs.Capture.{run_from}
@@ -21,7 +23,9 @@ use Rattle.totals.specs.Totals.{Totals}
 use Rattle.tally.specs.Counts.{Counts}
 use Rattle.tally.specs.History.{with_reading, tallied}
 use Rattle.counting.specs.Reports.{readings, came}
-use Rattle.counting.specs.Counting.{CountsRun}
+use Rattle.contents.specs.Walks.{NoRecord, NoStop}
+use Rattle.contents.proofs.Walks.{neither}
+use Rattle.counting.specs.Counting.{stop_number, CountsRun}
 use Rattle.counting.proofs.Unnumbered.{readings_anywhere, came_after_any}
 
 -- no reading, and one before others
@@ -38,10 +42,10 @@ tallied-first decode T xs later = refl
 module _ (last : Bool) (bytes : List ℕ) (before : Totals) where
   pub record Upto (T : Totals) (at : ℕ) : Type 0 where
     pub within : at ≤ length bytes
-    pub counted : (decode : List ℤ → Answer (ℕ × ℕ)) → Decoder decode → (previous : Number) (offset : ℕ)
+    pub counted : (decode : List ℤ → Answer (ℕ × ℕ)) → Decoder decode → (previous : Option ℕ) (offset : ℕ)
         → tallied decode before (run_from readings last previous offset bytes)
         ≡ tallied decode T (run_from readings last previous (offset + at) (drop at bytes))
-    pub ends : (previous : Number) (offset : ℕ)
+    pub ends : (previous : Option ℕ) (offset : ℕ)
         → run_from came last previous offset bytes ≡ run_from came last previous (offset + at) (drop at bytes)
 
   pub up_start : Upto before 0
@@ -95,3 +99,12 @@ module _ (last : Bool) (bytes : List ℕ) (before : Totals) where
           ∙ tallied-none decode T);
       ended = λ previous offset. sym (U.ends previous offset ∙ told-stopped came last previous offset bytes at e);
     }
+
+    pub up_done :
+        (stop : Option Refusal)
+        → let p = next_from at (in_piece last (stands_at bytes at)) in
+        NoRecord p
+        → MatchOption stop (NoStop p) (λ reason. p ≡ stopped (number reason))
+        → CountsRun last bytes before T (stop_number stop) at
+    up_done None r s = up_ended (neither (next_from at (in_piece last (stands_at bytes at))) r s)
+    up_done (Some reason) r s = up_stopped s

@@ -1,7 +1,6 @@
 -- Rules 18.5 and 18.6: the report on captures and its sheet, as functions of their bytes.
-use Rattle.std.specs.Prelude.{true, List, [], ◌∷◌, ◌++◌, ℕ, ℤ}
+use Rattle.std.specs.Prelude.{true, List, [], ◌∷◌, ◌++◌, ℕ, ℤ, None}
 use Rattle.golay.specs.Answers.{Answer}
-use Rattle.sequence.specs.declared.kinds.Number.TheVariants.{None}
 use Rattle.records.specs.Capture.{Telling, listed, run_from}
 use Rattle.totals.specs.Totals.{Totals, empty}
 use Rattle.tally.specs.History.{tallied}

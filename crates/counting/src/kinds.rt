@@ -1,12 +1,12 @@
 // What counting the records of a capture answers.
+use golay::kinds::Refusal;
 use totals::kinds::Tally;
 
-// The tally after a run over bytes of a capture; the number that the run stopped with, 9 or 10, or 0 where it did not; and how many bytes it
-// came through.
+// The tally after a run over bytes of a capture; why the run stopped, with 9 or 10, where it did; and how many bytes it came through.
 #[derive(Clone, Copy)]
 pub struct Counted {
     pub tally: Tally,
-    pub stop: u8,
+    pub stop: Option<Refusal>,
     pub through: usize,
 }
 

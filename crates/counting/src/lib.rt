@@ -3,66 +3,48 @@
 #![tactic(auto)]
 
 ghost use Rattle.totals.specs.Totals.{totals};
-ghost use Rattle.counting.specs.Counting.{CountsRun, CountsTurn};
+ghost use Rattle.counting.specs.Counting.{stop_number, CountsRun, CountsTurn};
 
 pub mod kinds;
 
+use contents::walk::Walk;
 use kinds::{Counted, CountedTurn};
-use records::kinds::Stands;
 use totals::kinds::Tally;
 
 // The run over the last bytes of the input, or over others. A record that can't be counted is passed over.
 pub fn count_records(bytes: &[u8], last: bool, t: Tally, table: &mut [u32]) -> Counted
-    ensures { CountsRun last bytes.now (totals t table.old) (totals result.tally table.new) result.stop result.through }
+    ensures { CountsRun last bytes.now (totals t table.old) (totals result.tally table.new) (stop_number result.stop) result.through }
 {
+    let mut walk = Walk::new(bytes, last);
     let mut tally = t;
-    let mut at: usize = 0;
-    loop {
-        match records::stands_at(bytes, at, last) {
-            Stands::Record(next) => {
-                let reading = contents::confidences(bytes, at);
-                let step = tally::counted(tally, table, &reading);
-                tally = step.tally;
-                at = next;
-            }
-            Stands::End => {
-                return Counted {
-                    tally: tally,
-                    stop: 0,
-                    through: at,
-                };
-            }
-            Stands::Stopped(reason) => {
-                return Counted {
-                    tally: tally,
-                    stop: golay::refusal_number(reason),
-                    through: at,
-                };
-            }
-        }
+    while let Some(record) = walk.next_record() {
+        let step = tally::counted(tally, table, &record.reading);
+        tally = step.tally;
+    }
+    Counted {
+        tally,
+        stop: walk.stop(),
+        through: walk.at,
     }
 }
 
 // The run over the first bytes that are held, which more may follow; what makes up no whole record is kept in front. Where so many are not held
 // nothing is counted or moved, and all are left.
 pub fn count_turn(held: &mut [u8], count: usize, t: Tally, table: &mut [u32]) -> CountedTurn
-    ensures { CountsTurn count held.old held.new (totals t table.old) (totals result.counted.tally table.new) result.counted.stop result.counted.through result.left }
+    ensures { CountsTurn count held.old held.new (totals t table.old) (totals result.counted.tally table.new) (stop_number result.counted.stop) result.counted.through result.left }
 {
     if held.len() < count {
-        let none = Counted {
+        let counted = Counted {
             tally: t,
-            stop: 0,
+            stop: None,
             through: 0,
         };
         return CountedTurn {
-            counted: none,
+            counted,
             left: count,
         };
     }
     let counted = count_records(&held[..count], false, t, table);
     let left = pieces::keep(held, counted.through, count);
-    CountedTurn {
-        counted: counted,
-        left: left,
-    }
+    CountedTurn { counted, left }
 }

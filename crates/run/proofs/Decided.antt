@@ -9,9 +9,9 @@ use lib.Dec.{leb, ltb}
 use lib.IntN.{ℤ}
 use lib.ListN.{length, drop, length-append}
 use borrow.Author.Tests.{leb-true, leb-false, ltb-true, ltb-false}
+use Rattle.std.specs.Prelude.{Option}
 use Rattle.golay.specs.Answers.{Answer}
 use Rattle.lines.specs.Lines.{longest}
-use Rattle.sequence.specs.declared.kinds.Number.{Number}
 use Rattle.sequence.specs.Sequence.{previous_after}
 use Rattle.records.specs.Records.{Record, new_length, record_length, Standing, ended, stopped, whole, standing, in_piece}
 use Rattle.records.specs.Capture.{Telling, run_at, run_in, Ending, ending}
@@ -38,7 +38,7 @@ outcome-same : {r s : Outcome} → r.put ≡ s.put → r.stopped ≡ s.stopped �
 outcome-same p q t n = λ i. record { put = p i; stopped = q i; through = t i; previous = n i }
 
 pub runs_once :
-    {last : Bool} {previous : Number} {offset : ℕ} {bytes before after later : List ℕ} {r s : Outcome}
+    {last : Bool} {previous : Option ℕ} {offset : ℕ} {bytes before after later : List ℕ} {r s : Outcome}
     → Runs last previous offset bytes before after r
     → Runs last previous offset bytes before later s
     → (after ≡ later) × (r ≡ s)
@@ -53,7 +53,7 @@ runs_once {offset = offset} {r = r} {s} R S =
     )
 
 pub run-once :
-    {last : Bool} {previous : Number} {offset : ℕ} {bytes before after later : List ℕ} {r s : Outcome}
+    {last : Bool} {previous : Option ℕ} {offset : ℕ} {bytes before after later : List ℕ} {r s : Outcome}
     → RunRule last previous offset bytes before after r
     → RunRule last previous offset bytes before later s
     → (after ≡ later) × (r ≡ s)
@@ -66,7 +66,7 @@ run-once {offset = offset} {bytes} {before} {after} {later} {r} {s} R S = cases 
 -- a run that stops tells it: so no run that has room ends as one that has none
 module _ (decode : List ℤ → Answer (ℕ × ℕ)) (last : Bool) where
   stop-told :
-      (fuel : ℕ) (previous : Number) (offset : ℕ) (left : List ℕ)
+      (fuel : ℕ) (previous : Option ℕ) (offset : ℕ) (left : List ℕ)
       → (run_in ending last fuel previous offset left).stopped ≡ true
       → 1 ≤ length (run_in (lines decode) last fuel previous offset left)
   unfolding run_in
@@ -88,7 +88,7 @@ module _ (decode : List ℤ → Answer (ℕ × ℕ)) (last : Bool) where
       cases (whole r) e tail = simp length-append (omega (arith, tail r e))
 
 pub never_unrun :
-    {last : Bool} {previous number : Number} {offset : ℕ} {bytes before after : List ℕ} {r : Outcome}
+    {last : Bool} {previous number : Option ℕ} {offset : ℕ} {bytes before after : List ℕ} {r : Outcome}
     → Runs last previous offset bytes before after r
     → r ≡ unrun number
     → ⊥
@@ -100,20 +100,20 @@ never_unrun {last} {previous} {offset = offset} {bytes} R e =
 
 -- the text of a run fits its buffer
 pub run_fits :
-    {last : Bool} {previous : Number} {offset : ℕ} {bytes before after : List ℕ} {r : Outcome}
+    {last : Bool} {previous : Option ℕ} {offset : ℕ} {bytes before after : List ℕ} {r : Outcome}
     → Runs last previous offset bytes before after r
     → r.put ≤ length before
 run_fits R = let p = R.text a_decoder.0 a_decoder.1 in omega (arith, p.room, p.place)
 
 -- a run came no farther than its bytes; and where more may follow and it did not stop, it left less than a record
 pub run_near :
-    {last : Bool} {previous : Number} {offset : ℕ} {bytes before after : List ℕ} {r : Outcome}
+    {last : Bool} {previous : Option ℕ} {offset : ℕ} {bytes before after : List ℕ} {r : Outcome}
     → Runs last previous offset bytes before after r
     → r.through ≤ length bytes
 run_near {last} {previous} {offset} {bytes} R = omega (arith, ap (λ (e : Ending). e.offset) R.ended, end_near last previous offset bytes)
 
 pub run_left :
-    {previous : Number} {offset : ℕ} {bytes before after : List ℕ} {r : Outcome}
+    {previous : Option ℕ} {offset : ℕ} {bytes before after : List ℕ} {r : Outcome}
     → Runs false previous offset bytes before after r
     → r.stopped ≡ false
     → length bytes < r.through + new_length

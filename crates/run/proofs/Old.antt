@@ -9,9 +9,9 @@ use lib.Dec.{leb}
 use lib.IntN.{ℤ}
 use lib.ListN.{length, get_or, drop}
 use lib.Seq.{get_or-drop}
+use Rattle.std.specs.Prelude.{None}
 use Rattle.code.specs.Code.{positions}
 use Rattle.golay.specs.Answers.{Answer, accepted, refused}
-use Rattle.sequence.specs.declared.kinds.Number.TheVariants.{None}
 use Rattle.sequence.specs.declared.kinds.Follows.TheVariants.{Unnumbered}
 use Rattle.lines.specs.Lines.{header, stopped_line, answer_line}
 use Rattle.sequence.specs.Sequence.{previous_after}

@@ -9,8 +9,8 @@ use native.Mathlib.Nat.{add-zero}
 use native.Mathlib.Omega.{arith}
 use lib.IntN.{ℤ}
 use lib.ListN.{length, drop}
+use Rattle.std.specs.Prelude.{Option}
 use Rattle.golay.specs.Answers.{Answer}
-use Rattle.sequence.specs.declared.kinds.Number.{Number}
 use Rattle.sequence.specs.declared.kinds.Follows.{Follows}
 use Rattle.sequence.specs.Sequence.{follows_from, previous_after}
 use Rattle.records.specs.Records.{ended, stopped, whole, stands_at, in_piece, next_from, number_of, reading_of}
@@ -28,14 +28,14 @@ use Rattle.run.specs.Output.{lines, lines_from}
 use Rattle.run.specs.Runs.{Room, Runs}
 
 -- over bytes that are the last of the input, or not, after a number and at an offset
-module _ (last : Bool) (first : Number) (offset : ℕ) (bytes before : List ℕ) where
+module _ (last : Bool) (first : Option ℕ) (offset : ℕ) (bytes before : List ℕ) where
   -- what was told of the bytes before a place, and what is left to tell
-  pub record Told (decode : List ℤ → Answer (ℕ × ℕ)) (after : List ℕ) (previous : Number) (at to : ℕ) : Type 0 where
+  pub record Told (decode : List ℤ → Answer (ℕ × ℕ)) (after : List ℕ) (previous : Option ℕ) (at to : ℕ) : Type 0 where
     pub text : List ℕ
     pub puts : Puts text before 0 after to
     pub rest : lines_from decode last first offset bytes ≡ text ++ lines_from decode last previous (offset + at) (drop at bytes)
 
-  pub record Upto (after : List ℕ) (previous : Number) (at to : ℕ) : Type 0 where
+  pub record Upto (after : List ℕ) (previous : Option ℕ) (at to : ℕ) : Type 0 where
     pub within : at ≤ length bytes
     pub short : to ≤ at
     pub long : length after ≡ length before
@@ -56,7 +56,7 @@ module _ (last : Bool) (first : Number) (offset : ℕ) (bytes before : List ℕ)
     ends = ap (λ (k : ℕ). run_from ending last first k bytes) (sym (add-zero offset));
   }
 
-  module _ (room : Room offset (length bytes) (length before)) {after : List ℕ} {previous : Number} {at to : ℕ} (U : Upto after previous at to) where
+  module _ (room : Room offset (length bytes) (length before)) {after : List ℕ} {previous : Option ℕ} {at to : ℕ} (U : Upto after previous at to) where
     -- where a line stands that has room for any line
     line_at :
         {xs : List ℤ} {follows : Follows} {later : List ℕ} {next : ℕ}

@@ -1,8 +1,13 @@
-// What a run answers.
+// What a run begins with, and what it answers.
 ghost use Rattle.std.specs.Prelude.{◌≡◌};
 ghost use Rattle.run.specs.Runs as runs;
 
-use sequence::kinds::Number;
+// The number before the first byte, where there is one, and the offset of that byte in the capture.
+#[derive(Clone, Copy, Default)]
+pub struct Start {
+    pub previous: Option<u16>,
+    pub offset: u64,
+}
 
 // How many bytes of text the run put into the buffer; whether it stopped: with 9 or 10, or, with nothing put, for want of room; how many bytes
 // it came through, and the previous number then.
@@ -11,17 +16,18 @@ pub struct Outcome {
     pub put: usize,
     pub stopped: bool,
     pub through: usize,
-    pub previous: Number,
+    pub previous: Option<u16>,
 }
 
 // The outcome of a run that has no room.
-pub fn unrun(previous: Number) -> Outcome
+// Stays: as the Err of a Result it could not be told from the outcome of a run by `RunRule` and `never_unrun`, which speak of it.
+pub fn unrun(previous: Option<u16>) -> Outcome
     ensures { result ≡ runs.unrun previous }
 {
     Outcome {
         put: 0,
         stopped: true,
         through: 0,
-        previous: previous,
+        previous,
     }
 }

@@ -7,58 +7,44 @@ ghost use Rattle.run.specs.Runs.{Room, Lacks, Runs, RunRule};
 
 pub mod kinds;
 
-use kinds::{Outcome, unrun};
+use contents::walk::Walk;
+use kinds::{Outcome, Start, unrun};
 use lines::LONGEST;
-use records::kinds::Stands;
-use sequence::kinds::Number;
 
 // Whether a buffer of a length has no room for the text of some bytes, or 64 bits have none for their offsets.
 fn lacks_room(offset: u64, count: usize, buffer: usize) -> bool
     ensures { Lacks offset count buffer result }
 {
-    if buffer < LONGEST {
-        return true;
-    }
-    if buffer - LONGEST < count {
-        return true;
-    }
-    0xFFFF_FFFF_FFFF_FFFF - offset < count as u64
+    buffer < LONGEST || buffer - LONGEST < count || u64::MAX - offset < count as u64
 }
 
 // The run over bytes that have room.
-fn run_through(bytes: &[u8], last: bool, previous: Number, offset: u64, out: &mut [u8]) -> Outcome
-    requires { Room offset (length bytes.now) (length out.old) }
-    ensures { Runs last previous offset bytes.now out.old out.new result }
+fn run_through(bytes: &[u8], last: bool, start: Start, out: &mut [u8]) -> Outcome
+    requires { Room start.offset (length bytes.now) (length out.old) }
+    ensures { Runs last start.previous start.offset bytes.now out.old out.new result }
 {
-    let mut before = previous;
-    let mut at: usize = 0;
-    let mut to: usize = 0;
-    loop {
-        match records::stands_at(bytes, at, last) {
-            Stands::Record(next) => {
-                let number = contents::number(bytes, at);
-                let reading = contents::confidences(bytes, at);
-                to = answers::write_answer(&reading, sequence::follows(before, number), out, to);
-                before = sequence::previous_after(before, number);
-                at = next;
-            }
-            Stands::End => {
-                return Outcome {
-                    put: to,
-                    stopped: false,
-                    through: at,
-                    previous: before,
-                };
-            }
-            Stands::Stopped(reason) => {
-                let number = golay::refusal_number(reason);
-                let put = lines::write_stopped(number, offset + at as u64, out, to);
-                return Outcome {
-                    put: put,
-                    stopped: true,
-                    through: at,
-                    previous: before,
-                };
+    let mut walk = Walk::new(bytes, last);
+    let mut previous = start.previous;
+    let mut put = 0;
+    while let Some(record) = walk.next_record() {
+        let follows = sequence::follows(previous, record.number);
+        put = answers::write_answer(&record.reading, follows, out, put);
+        previous = sequence::previous_after(previous, record.number);
+    }
+    match walk.stop() {
+        None => Outcome {
+            put,
+            stopped: false,
+            through: walk.at,
+            previous,
+        },
+        Some(reason) => {
+            let number = golay::refusal_number(reason);
+            Outcome {
+                put: lines::write_stopped(number, start.offset + walk.at as u64, out, put),
+                stopped: true,
+                through: walk.at,
+                previous,
             }
         }
     }
@@ -66,11 +52,11 @@ fn run_through(bytes: &[u8], last: bool, previous: Number, offset: u64, out: &mu
 
 // The run over the last bytes of the input, or over others, which begin after a previous number and at an offset of the capture: the text of
 // them all, at the start of the buffer.
-pub fn run(bytes: &[u8], last: bool, previous: Number, offset: u64, out: &mut [u8]) -> Outcome
-    ensures { RunRule last previous offset bytes.now out.old out.new result }
+pub fn run(bytes: &[u8], last: bool, start: Start, out: &mut [u8]) -> Outcome
+    ensures { RunRule last start.previous start.offset bytes.now out.old out.new result }
 {
-    if lacks_room(offset, bytes.len(), out.len()) {
-        return unrun(previous);
+    if lacks_room(start.offset, bytes.len(), out.len()) {
+        return unrun(start.previous);
     }
-    run_through(bytes, last, previous, offset, out)
+    run_through(bytes, last, start, out)
 }

@@ -8,13 +8,13 @@ use native.Mathlib.Omega.{arith}
 use lib.Dec.{leb}
 use lib.ListN.{length}
 use borrow.Author.Tests.{leb-true, leb-false}
-use Rattle.sequence.specs.declared.kinds.Number.{Number}
+use Rattle.std.specs.Prelude.{Option}
 use Rattle.pieces.proofs.Pieces.{keeps-once}
 use Rattle.run.specs.declared.kinds.Outcome.{Outcome}
 use Rattle.run.specs.Runs.{Room}
 use Rattle.run.proofs.Decided.{Decided, yes, no, room-decided, runs_once}
 use Rattle.turns.specs.declared.kinds.Turned.{Turned}
-use Rattle.turns.specs.Turns.{TurnRoom, TurnRule}
+use Rattle.turns.specs.Turns.{start, TurnRoom, TurnRule}
 
 turn-decided : (offset count held buffer : ℕ) → Decided (TurnRoom offset count held buffer)
 turn-decided offset count held buffer = cases (leb count held) refl (room-decided offset count buffer)
@@ -28,7 +28,7 @@ pub turned_same : {r s : Turned} → r.outcome ≡ s.outcome → r.left ≡ s.le
 turned_same p q e = λ i. record { outcome = p i; left = q i; next = e i }
 
 pub turn-once :
-    {previous : Number} {offset count : ℕ} {held before after later kept rest : List ℕ} {r s : Turned}
+    {previous : Option ℕ} {offset count : ℕ} {held before after later kept rest : List ℕ} {r s : Turned}
     → TurnRule previous offset count held before after kept r
     → TurnRule previous offset count held before later rest s
     → (after ≡ later) × (kept ≡ rest) × (r ≡ s)
@@ -42,5 +42,5 @@ turn-once {offset = offset} {count} {held} {before} {after} {later} {kept} {rest
         let (e, o) = runs_once T.ran U.ran in
         let through = ap (λ (o : Outcome). o.through) o in
         let (k, l) = keeps-once T.keeps (rw (sym through) at U.keeps) in
-        (e, k, turned_same o l (T.next ∙ ap (λ (n : ℕ). offset + n) through ∙ sym U.next))
+        (e, k, turned_same o l (T.next ∙ (λ i. start (o i).previous (offset + (o i).through)) ∙ sym U.next))
     cases (no none) = let (a, b, p) = R.none none in let (c, d, q) = S.none none in (a ∙ sym c, b ∙ sym d, p ∙ sym q)

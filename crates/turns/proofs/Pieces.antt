@@ -6,8 +6,8 @@ use mathlib.Core.List.{List, ◌∷◌, ◌++◌}
 use Prim.Native.Nat.{ℕ, ◌-◌}
 use lib.IntN.{ℤ}
 use lib.ListN.{drop}
+use Rattle.std.specs.Prelude.{Option}
 use Rattle.golay.specs.Answers.{Answer}
-use Rattle.sequence.specs.declared.kinds.Number.{Number}
 use Rattle.sequence.specs.Sequence.{follows_from}
 use Rattle.lines.specs.Lines.{stopped_line, answer_line}
 use Rattle.records.specs.Capture.{run_from, ending}
@@ -20,7 +20,7 @@ use Rattle.run.specs.Output.{lines, lines_from}
 module _ (decode : List ℤ → Answer (ℕ × ℕ)) where
   -- a turn: its text, and where it did not stop the turns after it, from where it ended
   pub turns_go :
-      (previous : Number) (offset : ℕ) (held piece : List ℕ) (pieces : List (List ℕ))
+      (previous : Option ℕ) (offset : ℕ) (held piece : List ℕ) (pieces : List (List ℕ))
       → let bytes = held ++ piece in
       turns_from (lines decode) previous offset held (piece ∷ pieces)
       ≡ lines_from decode false previous offset bytes
@@ -29,6 +29,6 @@ module _ (decode : List ℤ → Answer (ℕ × ℕ)) where
       listed.turns_go (λ previous r. answer_line (decode r.reading) (follows_from previous r.number)) (λ n previous offset. stopped_line n offset)
 
   pub turns_text :
-      (previous : Number) (offset : ℕ) (held : List ℕ) (pieces : List (List ℕ))
+      (previous : Option ℕ) (offset : ℕ) (held : List ℕ) (pieces : List (List ℕ))
       → turns_from (lines decode) previous offset held pieces ≡ lines_from decode true previous offset (held ++ all_pieces pieces)
   turns_text = pieces_told (lines decode)

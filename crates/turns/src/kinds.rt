@@ -1,10 +1,10 @@
 // What a turn answers.
-use run::kinds::Outcome;
+use run::kinds::{Outcome, Start};
 
-// How many bytes are left after a turn, and the offset of the first of them.
+// The run's outcome; how many bytes are left after a turn, and what the next one begins with.
 #[derive(Clone, Copy)]
 pub struct Turned {
     pub outcome: Outcome,
     pub left: usize,
-    pub next: u64,
+    pub next: Start,
 }

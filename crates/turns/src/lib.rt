@@ -6,27 +6,29 @@ ghost use Rattle.turns.specs.Turns.{TurnRule};
 pub mod kinds;
 
 use kinds::Turned;
-use run::kinds::unrun;
-use sequence::kinds::Number;
+use run::kinds::{Start, unrun};
 
 // The run over the first bytes that are held, which begin after a previous number and at an offset of the capture, and which more may follow.
 // Where so many are not held, or have no room, nothing is written or moved.
-pub fn turn(held: &mut [u8], count: usize, previous: Number, offset: u64, out: &mut [u8]) -> Turned
-    ensures { TurnRule previous offset count held.old out.old out.new held.new result }
+pub fn turn(held: &mut [u8], count: usize, start: Start, out: &mut [u8]) -> Turned
+    ensures { TurnRule start.previous start.offset count held.old out.old out.new held.new result }
 {
     if held.len() < count {
         return Turned {
-            outcome: unrun(previous),
+            outcome: unrun(start.previous),
             left: count,
-            next: offset,
+            next: start,
         };
     }
-    let outcome = run::run(&held[..count], false, previous, offset, out);
+    let outcome = run::run(&held[..count], false, start, out);
     let left = pieces::keep(held, outcome.through, count);
-    let next = offset + outcome.through as u64;
+    let next = Start {
+        previous: outcome.previous,
+        offset: start.offset + outcome.through as u64,
+    };
     Turned {
-        outcome: outcome,
-        left: left,
-        next: next,
+        outcome,
+        left,
+        next,
     }
 }

@@ -1,25 +1,44 @@
--- `counting::count_records` meets its contract, by what stands at the place: a record is counted, or the run ends there or stops.
-use Rattle.std.proofs.Common.{sym, ap, ◌∙◌, arith}
-use Rattle.records.specs.Records.{stopped}
+-- By what stands where the walk has come to: a record is counted, or the run ends there or stops.
+use Rattle.std.proofs.Common.{◌≡◌, refl, sym, ap, ◌∙◌, arith, Option, None, Some}
 use Rattle.records.proofs.Standing.{whole_takes, takes_room}
 use Rattle.totals.specs.Totals.{totals}
-use Rattle.counting.proofs.Upto.{up_record, up_ended, up_stopped}
+use Rattle.contents.proofs.Walks.{place_is, walk-passed, passed-reading, passed-bytes, passed-last}
+use Rattle.counting.proofs.Upto.{up_start, up_record, up_done}
 use Rattle.counting.proofs.count_records.Goals as goal
 
-pub loop-next-smaller : goal.loop-next-smaller
-loop-next-smaller c =
-    let room = takes_room (whole_takes c.args.last c.args.bytes.now c.loop-next.at (sym c.in-Record.ensures)) in
+pub loop-record-init : goal.loop-record-init
+loop-record-init c = record {
+  bytes = ap (λ b. b.now) c.new-walk.ensures.bytes;
+  last = c.new-walk.ensures.last;
+  upto = rw c.new-walk.ensures.start (up_start c.args.last c.args.bytes.now (totals c.args.t c.args.table.now));
+}
+
+pub loop-record-smaller : goal.loop-record-smaller
+loop-record-smaller c =
+    let I = c.loop-record.invariant in
+    let stands = walk-passed c.loop-record.walk I.bytes I.last c.in-Some.ensures.passes in
+    let room = takes_room (whole_takes c.args.last c.args.bytes.now c.loop-record.walk.at stands) in
     omega (arith, room.0, room.1)
 
-pub loop-next-preserved : goal.loop-next-preserved
-loop-next-preserved c =
-    up_record c.args.last c.args.bytes.now (totals c.args.t c.args.table.now) c.loop-next.invariant (sym c.in-Record.ensures)
-    (rw c.confidences-reading.ensures at c.counted-step.ensures)
+pub loop-record-preserved : goal.loop-record-preserved
+loop-record-preserved c =
+    let I = c.loop-record.invariant in
+    let P = c.in-Some.ensures.passes in
+    let reading = passed-reading c.loop-record.walk I.bytes I.last P in
+    record {
+      bytes = passed-bytes c.loop-record.walk I.bytes I.last P;
+      last = passed-last c.loop-record.walk I.bytes I.last P;
+      upto = up_record c.args.last c.args.bytes.now (totals c.args.t c.args.table.now) I.upto
+          (walk-passed c.loop-record.walk I.bytes I.last P)
+          (rw reading at c.counted-step.ensures);
+    }
 
-pub returns-in-End : goal.returns-in-End
-returns-in-End c = up_ended c.args.last c.args.bytes.now (totals c.args.t c.args.table.now) c.loop-next.invariant (sym c.in-End.ensures)
-
-pub returns-in-Stopped : goal.returns-in-Stopped
-returns-in-Stopped c =
-    up_stopped c.args.last c.args.bytes.now (totals c.args.t c.args.table.now) c.loop-next.invariant
-    (sym c.in-Stopped.ensures ∙ ap stopped (sym c.refusal_number.ensures))
+pub returns : goal.returns
+returns c =
+    let I = c.loop-record.invariant in
+    let stays = c.in_default.ensures.same in
+    let place = place_is c.loop-record.walk I.bytes I.last in
+    rw stays
+    (up_done c.args.last c.args.bytes.now (totals c.args.t c.args.table.now) I.upto c.stop.result
+    (rw place at c.in_default.ensures.none)
+    (rw place at (rw stays at c.stop.ensures)))

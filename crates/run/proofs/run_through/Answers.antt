@@ -1,36 +1,60 @@
--- By what stands at the place, the run goes on, ends or stops.
+-- By what stands where the walk has come to, the run goes on, ends or stops.
 use Rattle.std.proofs.Common.{◌<◌, ◌^◌, sym, ap, ◌∙◌, arith, rules}
 use Rattle.sequence.specs.Sequence.{follows_from, previous_after}
 use Rattle.records.specs.Records.{stopped}
 use Rattle.records.proofs.Standing.{whole_takes, takes_room}
+use Rattle.contents.proofs.Walks.{walk-ended, walk-stopped, walk-passed, passed-number, passed-reading, passed-bytes, passed-last}
 use Rattle.run.proofs.Upto.{up_start, up_record, up_ended, up_stopped}
 use Rattle.run.proofs.run_through.Goals as goal
 
-pub loop-next-init : goal.loop-next-init
-loop-next-init c = up_start c.args.last c.args.previous c.args.offset c.args.bytes.now c.args.out.now
+pub loop-record-init : goal.loop-record-init
+loop-record-init c = record {
+  bytes = ap (λ b. b.now) c.new-walk.ensures.bytes;
+  last = c.new-walk.ensures.last;
+  upto = rw c.new-walk.ensures.start (up_start c.args.last c.args.start.previous c.args.start.offset c.args.bytes.now c.args.out.now);
+}
 
-pub loop-next-smaller : goal.loop-next-smaller
-loop-next-smaller c =
-    let room = takes_room (whole_takes c.args.last c.args.bytes.now c.loop-next.at (sym c.in-Record.ensures)) in omega (arith, room.0, room.1)
+pub loop-record-smaller : goal.loop-record-smaller
+loop-record-smaller c =
+    let I = c.loop-record.invariant in
+    let stands = walk-passed c.loop-record.walk I.bytes I.last c.in-Some.ensures.passes in
+    let room = takes_room (whole_takes c.args.last c.args.bytes.now c.loop-record.walk.at stands) in
+    omega (arith, room.0, room.1)
 
-pub loop-next-preserved : goal.loop-next-preserved
-loop-next-preserved c =
-    let number = c.number-number.ensures in
-    let before = c.loop-next.before in
-    let follows = c.follows.ensures ∙ ap (follows_from before) number in
-    rw (sym (c.previous_after-before.ensures ∙ ap (previous_after before) number)) at
-    (up_record c.args.last c.args.previous c.args.offset c.args.bytes.now c.args.out.now c.requires c.loop-next.invariant (sym c.in-Record.ensures)
-    (search rules)
-    (rw c.confidences-reading.ensures at (rw follows at c.write_answer-to.ensures)))
+pub loop-record-preserved : goal.loop-record-preserved
+loop-record-preserved c =
+    let I = c.loop-record.invariant in
+    let P = c.in-Some.ensures.passes in
+    let previous = c.loop-record.previous in
+    let number = passed-number c.loop-record.walk I.bytes I.last P in
+    let reading = passed-reading c.loop-record.walk I.bytes I.last P in
+    let follows = c.follows-follows.ensures ∙ ap (follows_from previous) number in
+    let after = c.previous_after-previous.ensures ∙ ap (previous_after previous) number in
+    record {
+      bytes = passed-bytes c.loop-record.walk I.bytes I.last P;
+      last = passed-last c.loop-record.walk I.bytes I.last P;
+      upto = rw after
+          (up_record c.args.last c.args.start.previous c.args.start.offset c.args.bytes.now c.args.out.now c.requires I.upto
+          (walk-passed c.loop-record.walk I.bytes I.last P)
+          (search rules)
+          (rw reading at (rw follows at c.write_answer-put.ensures)));
+    }
 
-pub returns-in-End : goal.returns-in-End
-returns-in-End c =
-    up_ended c.args.last c.args.previous c.args.offset c.args.bytes.now c.args.out.now c.requires c.loop-next.invariant (sym c.in-End.ensures)
+pub returns-in-None : goal.returns-in-None
+returns-in-None c =
+    let I = c.loop-record.invariant in
+    let stays = c.in_default.ensures.same in
+    let stands = walk-ended c.loop-record.walk I.bytes I.last c.in_default.ensures.none (rw stays at c.in-None.ensures) in
+    rw stays (up_ended c.args.last c.args.start.previous c.args.start.offset c.args.bytes.now c.args.out.now c.requires I.upto stands)
 
-pub returns-in-Stopped : goal.returns-in-Stopped
-returns-in-Stopped c =
+pub returns-in-Some-stop : goal.returns-in-Some-stop
+returns-in-Some-stop c =
+    let I = c.loop-record.invariant in
+    let stays = c.in_default.ensures.same in
+    let stands = walk-stopped c.loop-record.walk I.bytes I.last (rw stays at c.in-Some-stop.ensures) in
     let small : c.refusal_number-number.result < 2 ^ 8 = search rules in
-    up_stopped c.args.last c.args.previous c.args.offset c.args.bytes.now c.args.out.now c.requires c.loop-next.invariant
-    (sym c.in-Stopped.ensures ∙ ap stopped (sym c.refusal_number-number.ensures))
+    rw stays
+    (up_stopped c.args.last c.args.start.previous c.args.start.offset c.args.bytes.now c.args.out.now c.requires I.upto
+    (stands ∙ ap stopped (sym c.refusal_number-number.ensures))
     small
-    c.write_stopped-put.ensures
+    (rw stays at c.write_stopped.ensures))

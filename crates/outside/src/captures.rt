@@ -1,0 +1,67 @@
+// A capture that is read piece after piece, whatever is made of its bytes.
+ghost use Rattle.std.specs.Prelude.{◌≡◌, ◌+◌, ◌^◌, ◌<◌, ◌≤◌, length, IfSome};
+ghost use Rattle.records.specs.Records.{new_length};
+ghost use Rattle.outside.specs.Reader.{Stays};
+
+use crate::kinds::System;
+use std::io::{Read, Result};
+
+// How many bytes are held.
+pub const HELD: usize = 65_536;
+
+// No offset comes near the end of 64 bits; this says so to the proofs.
+const FARTHEST: u64 = 0xFFFF_FFFF_FFFE_0000;
+
+// What is made of a capture's bytes, turn by turn.
+pub trait Turns {
+    // A turn over the first bytes that are held, which begin at an offset of the capture and which more may follow. How many are left then, in front;
+    // none is the last turn.
+    fn turn(
+        &mut self,
+        system: &mut System,
+        held: &mut [u8],
+        count: usize,
+        offset: u64,
+    ) -> Option<usize>
+        requires held_len { length held.old ≡ 65536 }
+        requires count_in_bounds { count ≤ 65536 }
+        requires count_bound { offset + count < 2 ^ 64 }
+        ensures stays { Stays system.old system.new }
+        ensures left_of_all { IfSome result (λ left. left ≤ count) }
+        ensures left_short { IfSome result (λ left. left < new_length) };
+
+    // What is left at the end of the input, from an offset on.
+    fn last(&mut self, system: &mut System, left: &[u8], offset: u64)
+        requires left_bound { length left.now ≤ 65536 }
+        requires offset_bound { offset + length left.now < 2 ^ 64 }
+        ensures { Stays system.old system.new };
+}
+
+// Reads a capture of any length, also one that comes slowly: a turn over each piece, and at last over what is left.
+pub fn read_capture<R: Read, T: Turns>(
+    system: &mut System,
+    input: &mut R,
+    turns: &mut T,
+) -> Result<()>
+    ensures { Stays system.old system.new }
+{
+    let mut held = [0u8; HELD];
+    let mut count: usize = 0;
+    let mut offset: u64 = 0;
+    while offset < FARTHEST {
+        let n = input.read(&mut held[count..])?;
+        if n == 0 {
+            turns.last(system, &held[..count], offset);
+            return Ok(());
+        }
+        let all = count + n;
+        let Some(left) = turns.turn(system, &mut held, all, offset) else {
+            return Ok(());
+        };
+        let next = offset + (all - left) as u64;
+        system.show_progress(offset, next);
+        count = left;
+        offset = next;
+    }
+    Ok(())
+}
