@@ -20,7 +20,7 @@ pub struct Outcome {
 }
 
 // The outcome of a run that has no room.
-// Stays: as the Err of a Result it could not be told from the outcome of a run by `RunRule` and `never_unrun`, which speak of it.
+// Stays: `RunRule`, `run-once` and `never_unrun` say of a run without room that it has this very outcome, and no other run has.
 pub fn unrun(previous: Option<u16>) -> Outcome
     ensures { result ≡ runs.unrun previous }
 {

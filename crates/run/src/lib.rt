@@ -39,7 +39,7 @@ fn run_through(bytes: &[u8], last: bool, start: Start, out: &mut [u8]) -> Outcom
             previous,
         },
         Some(reason) => {
-            let number = golay::refusal_number(reason);
+            let number = u8::from(reason);
             Outcome {
                 put: lines::write_stopped(number, start.offset + walk.at as u64, out, put),
                 stopped: true,

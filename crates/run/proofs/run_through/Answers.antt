@@ -52,9 +52,9 @@ returns-in-Some-stop c =
     let I = c.loop-record.invariant in
     let stays = c.in_default.ensures.same in
     let stands = walk-stopped c.loop-record.walk I.bytes I.last (rw stays at c.in-Some-stop.ensures) in
-    let small : c.refusal_number-number.result < 2 ^ 8 = search rules in
+    let small : c.from-number.result < 2 ^ 8 = search rules in
     rw stays
     (up_stopped c.args.last c.args.start.previous c.args.start.offset c.args.bytes.now c.args.out.now c.requires I.upto
-    (stands ∙ ap stopped (sym c.refusal_number-number.ensures))
+    (stands ∙ ap stopped (sym c.from-number.ensures))
     small
     (rw stays at c.write_stopped.ensures))
