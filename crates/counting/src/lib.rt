@@ -30,6 +30,7 @@ pub fn count_records(bytes: &[u8], last: bool, t: Tally, table: &mut [u32]) -> C
 
 // The run over the first bytes that are held, which more may follow; what makes up no whole record is kept in front. Where so many are not held
 // nothing is counted or moved, and all are left.
+// Stays: made one with `turns::turn` it is no plainer: a closure would run over the bytes, and its contract name what it lends and changes.
 pub fn count_turn(held: &mut [u8], count: usize, t: Tally, table: &mut [u32]) -> CountedTurn
     ensures { CountsTurn count held.old held.new (totals t table.old) (totals result.counted.tally table.new) (stop_number result.counted.stop) result.counted.through result.left }
 {
