@@ -74,7 +74,7 @@ impl Turns for Counts {
 // Where and why a capture stopped, by its name.
 fn tell_stop(system: &mut System, name: &[u8], stop: Stop) {
     let mut line = [0u8; LONGEST];
-    let number = golay::refusal_number(stop.reason);
+    let number = u8::from(stop.reason);
     let n = lines::write_stopped(number, stop.offset, &mut line, 0);
     system.tell(name);
     system.tell(b": ");
