@@ -32,7 +32,12 @@ none-negative [] w = refl
 none-negative (x ∷ xs) w = rw (not_negative x (w 0 (omega arith)), none-negative xs (λ k h. w (suc k) (omega arith))) refl
 
 -- what is found by asking each one, where one that is passed lies in the range
-pub checked : (xs : List ℤ) (r : Bool) → MatchBool r ((k : ℕ) × (k < length xs) × HoldsAt (λ x. is_most_negative x ≡ true) xs k) (AllWithin (λ x. Within 2147483647 x) xs 0 (length xs)) → Checked xs r
+pub checked :
+    (xs : List ℤ) (r : Bool)
+    → MatchBool r
+    ((k : ℕ) × (k < length xs) × HoldsAt (λ x. is_most_negative x ≡ true) xs k)
+    (AllWithin (λ x. Within 2147483647 x) xs 0 (length xs))
+    → Checked xs r
 checked xs true (k, h, e) = record { is = sym (some-such xs k h (e (pos 0))); range = λ g. absurd (true≢false g) }
 checked xs false a =
     let w : (k : ℕ) → k < length xs → Within 2147483647 (get_or xs k (pos 0)) = λ k h. a k (pos 0) (omega arith) h in

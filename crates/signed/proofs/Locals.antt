@@ -1,6 +1,6 @@
 -- A signed local holds the bits of its value: when a value fits its width, when the bits read back as it, and what a test of two locals
 -- says.
-use mathlib.Core.Path.{◌≡◌, refl, sym, ap, ◌∙◌}
+use mathlib.Core.Path.{◌≡◌, refl}
 use mathlib.Core.Bool.{true, false}
 use Prim.Native.Nat.{ℕ, ◌+◌, ◌≤◌, ◌<◌, ◌^◌}
 use native.Mathlib.Omega.{arith}
@@ -24,16 +24,9 @@ mag_below (negsuc n) h a b = b
 pub parts_fit : {w : Width} {z : ℤ} → hi z < 2 ^ hbits w → lo z ≤ 2 ^ hbits w → SFits w z
 parts_fit {w} {z} a b = record { sfits = mag_below z (2 ^ hbits w) a b }
 
-mag_hi : (z : ℤ) (h : ℕ) → mag z < h → hi z < h
-mag_hi (pos n) h a = a
-mag_hi (negsuc n) h a = omega arith
-
 mag_lo : (z : ℤ) (h : ℕ) → mag z < h → lo z ≤ h
 mag_lo (pos n) h a = omega arith
 mag_lo (negsuc n) h a = a
-
-pub fit_hi : {w : Width} {z : ℤ} → SFits w z → hi z < 2 ^ hbits w
-fit_hi {w} {z} f = mag_hi z (2 ^ hbits w) f.sfits
 
 pub fit_lo : {w : Width} {z : ℤ} → SFits w z → lo z ≤ 2 ^ hbits w
 fit_lo {w} {z} f = mag_lo z (2 ^ hbits w) f.sfits
@@ -101,13 +94,6 @@ module _ {w : Width} {x y : ℤ} (f : SFits w x) (g : SFits w y) where
 
   pub le_left : le_z (to_z w (of_z w x)) (to_z w (of_z w y)) ≡ false → y <ℤ x
   le_left e = le_false x y (rw (to_z-of_z f, to_z-of_z g) at e)
-
-  -- a test for equality is one of the bits
-  pub eq_taken : of_z w x ≡ of_z w y → x ≡ y
-  eq_taken e = sym (to_z-of_z f) ∙ ap (to_z w) e ∙ to_z-of_z g
-
-  pub eq_left : (of_z w x ≡ of_z w y → ⊥) → x ≡ y → ⊥
-  eq_left d e = d (ap (of_z w) e)
 
 -- ---- the sign, by a test against zero
 
