@@ -1,11 +1,11 @@
 -- The sums of a class in the array of all: they are those that the reading's columns say for its characters.
 use mathlib.Core.Path.{◌≡◌, refl, ap}
 use mathlib.Core.List.{List}
-use Prim.Native.Nat.{ℕ, zero, suc, ◌+◌, ◌-◌, ◌*◌, ◌/◌, ◌%◌, ◌≤◌, ◌<◌}
+use Prim.Native.Nat.{ℕ, zero, suc, ◌+◌, ◌-◌, ◌*◌, ◌/◌, ◌%◌, ◌<◌}
 use native.Mathlib.Omega.{arith}
-use lib.IntN.{ℤ, pos}
+use lib.IntN.{ℤ}
 use lib.ListN.{length, get_or}
-use borrow.Author.Tests.{lt-ltb, le-ltb}
+use borrow.Author.Tests.{lt-ltb}
 use Rattle.code.specs.Characters.{fourth, fifth, sixth}
 use Rattle.classes.specs.Classes.{parity_of, characters_of, character_in, column_figure, class_sums}
 use Rattle.classes.proofs.Characters.{fourth_small, fifth_small, sixth_small}
@@ -43,9 +43,6 @@ module _ (xs s : List ℤ) (I : Sums xs s) (k : ℕ) where
 -- ---- one column of a class
 
 module _ (xs : List ℤ) (k i : ℕ) where
-  pub column_at_past : 6 ≤ i → column_at xs k i ≡ pos 0
-  column_at_past h = simp (le-ltb i 6 h)
-
   pub column_at-within : i < 6 → column_at xs k i ≡ column_figure xs k (i + 1)
   column_at-within h = simp (lt-ltb i 6 h)
 

@@ -1,23 +1,22 @@
--- A column's eight sums from its two pairs, and the array that holds them: each equation of signed sums is one of the confidences' parts. Of any
+-- A column's eight sums from its two pairs: each equation of signed sums is one of the confidences' parts. Of any
 -- list of confidences: where one is missing, 0 stands in.
 use mathlib.Core.Path.{◌≡◌, refl}
 use mathlib.Core.Bool.{Bool, true, false}
 use mathlib.Core.List.{List, [], ◌∷◌}
-use Prim.Native.Nat.{ℕ, zero, suc, ◌+◌, ◌*◌, ◌/◌, ◌%◌, ◌≤◌, ◌<◌}
+use Prim.Native.Nat.{ℕ, zero, suc, ◌+◌, ◌*◌, ◌/◌, ◌%◌, ◌<◌}
 use native.Mathlib.Omega.{arith}
-use native.Mathlib.Decide.{dec_le}
-use lib.Dec.{eqb, lit≤, lit<}
+use lib.Dec.{eqb, lit<}
 use lib.IntN.{ℤ, pos, neg_ℤ, ◌+ℤ◌, ◌-ℤ◌, +ℤ_idr}
-use lib.ListN.{length, get_or, take, drop, get_or-eq_default}
+use lib.ListN.{get_or, take, drop}
 use lib.Seq.{take-nil, drop-nil}
 use Rattle.signed.specs.Sign.{signed}
 use Rattle.signed.specs.Within.{Within}
 use Rattle.signed.proofs.Sums.{at, ◌⊕◌, ◌⊖◌, opposite, by_eq}
-use Rattle.signed.proofs.Bounds.{within-pos, within-add, within-sub}
+use Rattle.signed.proofs.Bounds.{within-add, within-sub}
 use Rattle.contest.specs.Readings.{correlation}
 use Rattle.classes.specs.Codewords.{in_positions}
 use Rattle.classes.specs.Classes.{column_sum}
-use Rattle.columns.specs.Columns.{ColumnOf, SumAt, SumsUpTo, SumsWithin, place, Sums}
+use Rattle.columns.specs.Columns.{ColumnOf, SumAt}
 use Rattle.columns.specs.declared.parts.Column.{Column}
 
 -- ---- four confidences, 0 for each that is missing
@@ -133,25 +132,3 @@ module _ {xs : List ℤ} {t : Column} (i n : ℕ) (C : ColumnOf xs i t) where
         odd-w = λ q. at_place i 1 2 n (lit< tt) (lit< tt) q (rw (U.sum, ld, f 2) (odd-w a b c d)) (within-sub upper.narrow_sum lower.narrow_difference);
         odd-v = λ q. at_place i 1 3 n (lit< tt) (lit< tt) q (rw (U.sum, ld, f 1) (odd-v a b c d)) (within-add upper.narrow_sum lower.narrow_difference);
       }
-
--- ---- the array
-
--- all 48
-module _ {xs s : List ℤ} (S : SumsUpTo xs 6 s) where
-  sums_are : (i p x : ℕ) → i < 6 → p < 2 → x < 4 → get_or s (place i p x) (pos 0) ≡ column_sum xs i p x
-  sums_are i p x hi hp hx =
-      let j = place i p x in
-      let e : j / 8 ≡ i = omega arith in
-      let f : j % 8 / 4 ≡ p = omega arith in
-      let g : j % 8 % 4 ≡ x = omega arith in
-      rw (e, f, g) at (S.places j (omega arith)).value
-
-  sums-within : SumsWithin s
-  sums-within j = go (dec_le 48 j)
-    where
-      go : Dec (48 ≤ j) → Within 8589934592 (get_or s j (pos 0))
-      go (yes h) = let l : length s ≤ j = omega (arith, S.long) in rw (get_or-eq_default s (pos 0) l) (within-pos (lit≤ tt))
-      go (no h) = (S.places j (omega arith)).bound
-
-  pub all-sums : Sums xs s
-  all-sums = record { sums = sums_are; within = sums-within }

@@ -22,25 +22,10 @@ use Rattle.contest.proofs.Codes.{code_sum, code_least, codes-weight, codes-odd, 
 use Rattle.code.specs.Characters.{fourth, fifth, sixth}
 use Rattle.classes.specs.Classes.{parity_of, characters_of}
 use Rattle.classes.proofs.Characters.{fourth_small, fifth_small, sixth_small}
-use Rattle.columns.specs.Places.{Filled}
-use Rattle.columns.specs.Columns.{SumsWithin, place, far}
+use Rattle.columns.specs.Columns.{place, far}
 use Rattle.pairs.specs.Pairs.{widest, first_of, second_of, Pairs}
-use Rattle.pairs.proofs.Pairing.{padded, pairs_within}
-use Rattle.figures.specs.Figures.{reached_from, CodeAt, Codes, Usable, middle_of, last_of, scored, figure_from, figure_of, figure_at}
-
--- ---- codes
-
-pub code_small : (z : ℤ) → Within 8589934592 z → code z ≤ widest
-code_small z w = omega (arith, w.within, one_small (sign z))
-
-pub code_here : {s : List ℤ} {z : ℕ} (j : ℕ) → SumsWithin s → z ≡ code (get_or s j (pos 0)) → CodeAt s j z
-code_here {s} j w e = record { value = e; bound = rw e (code_small (get_or s j (pos 0)) (w j)) }
-
-pub all_codes : {s : List ℤ} {e : List ℕ} → Filled 0 (CodeAt s) 48 48 e → Codes s e
-all_codes {s} {e} F = record {
-  codes = λ j h. (F.places j h).value;
-  within = padded widest e F.long (λ j h. (F.places j h).bound);
-}
+use Rattle.pairs.proofs.Pairing.{pairs_within}
+use Rattle.figures.specs.Figures.{reached_from, Codes, Usable, middle_of, last_of, scored, figure_from, figure_of, figure_at}
 
 -- ---- pairs of codes
 

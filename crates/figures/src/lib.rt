@@ -17,6 +17,7 @@ use pairs::{pair_leasts, pair_sums};
 use signed::smaller;
 
 // Where the codes of a class's third and fourth column stand together, and those of its fifth and sixth.
+// Stays: as one array of pairs it is no plainer: the layout gives each of the 128 pairs a line of its own.
 const MIDDLE: [u8; 128] = [
     0, 5, 10, 15, 1, 4, 11, 14, 2, 7, 8, 13, 3, 6, 9, 12, 1, 4, 11, 14, 0, 5, 10, 15, 3, 6, 9, 12,
     2, 7, 8, 13, 2, 7, 8, 13, 3, 6, 9, 12, 0, 5, 10, 15, 1, 4, 11, 14, 3, 6, 9, 12, 2, 7, 8, 13, 1,
@@ -51,6 +52,7 @@ struct FirstPair {
 }
 
 // The other columns in pairs: their codes added, and the smaller of them; and where each class finds its own. The tables are laid out once.
+// Stays: as one array of pairs the sums and leasts are no plainer: `pair_sums` and `pair_leasts`, which are public, each make one of them.
 #[derive(Drop)]
 struct OtherPairs {
     sums: [u64; 64],
