@@ -7,30 +7,20 @@ ghost use Rattle.choices.specs.Choices.{receiver, reserve_of, preferred};
 
 pub mod kinds;
 
+use golay::kinds::Refusal;
 use kinds::Choice;
-use soft::kinds::SoftAnswer;
+use soft::kinds::Soft;
 
 // The answer with the larger reserve, the first where they are equal; a refusal has none (rule 17.3).
-pub fn larger_reserve(first: SoftAnswer, second: SoftAnswer) -> Choice
+pub fn larger_reserve(first: Result<Soft, Refusal>, second: Result<Soft, Refusal>) -> Choice
     ensures { receiver result ≡ preferred (reserve_of (soft_answer first)) (reserve_of (soft_answer second)) }
 {
-    match first {
-        SoftAnswer::Accepted(one) => match second {
-            SoftAnswer::Accepted(other) => {
-                let a = one.reserve;
-                let b = other.reserve;
-                if b <= a {
-                    Choice::First
-                } else {
-                    Choice::Second
-                }
-            }
-            SoftAnswer::Refused(_) => Choice::First,
-        },
-        SoftAnswer::Refused(_) => match second {
-            SoftAnswer::Accepted(_) => Choice::Second,
-            SoftAnswer::Refused(_) => Choice::Neither,
-        },
+    match (first, second) {
+        (Ok(one), Ok(other)) if other.reserve <= one.reserve => Choice::First,
+        (Ok(_), Ok(_)) => Choice::Second,
+        (Ok(_), Err(_)) => Choice::First,
+        (Err(_), Ok(_)) => Choice::Second,
+        (Err(_), Err(_)) => Choice::Neither,
     }
 }
 
