@@ -47,6 +47,7 @@ pub fn write_accepted(
 }
 
 // As in "refused 6" (rule 13.4).
+// Stays: the promise of this line and the next is for every number; a `Refusal` in its place would ask more of callers.
 pub fn write_refused(number: u8, follows: Follows, out: &mut [u8], at: usize) -> usize
     ensures writes { Writes (refused_line number follows) out.old at out.new result }
     ensures follows_len_bound { length (refused_line number follows) ≤ longest }

@@ -36,6 +36,8 @@ fn exceeds(words: usize, more: usize, length: usize, at: usize) -> bool
 }
 
 // A text as it is.
+// Stays: out and at as one struct are no plainer: each function that takes it owes one clause more, that it still lends the same buffer.
+// Stays: what could not fail still cannot (`Writes`), so where a text does not fit the answer is its place, and no `None`.
 pub fn write_text(text: &[u8], out: &mut [u8], at: usize) -> usize
     ensures { Writes text.now out.old at out.new result }
 {
@@ -46,6 +48,7 @@ pub fn write_text(text: &[u8], out: &mut [u8], at: usize) -> usize
 }
 
 // A word, a number and what the line ends with.
+// Stays: `write!` prints a line piece by piece, and one that does not fit is not begun (`Writes`).
 pub fn write_one(word: &[u8], n: u64, end: &[u8], out: &mut [u8], at: usize) -> usize
     ensures { Writes (line_of word.now n end.now) out.old at out.new result }
 {
