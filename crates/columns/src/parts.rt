@@ -49,6 +49,7 @@ impl Column {
     }
 
     // One of the eight sums: even 0, 1, w, v, then odd 0, 1, w, v.
+    // Stays: parities and characters are numbers by the rules (1.5 and 1.6 of docs/RULES.md), and these two number the sum's place in its column.
     pub fn sum_of(self, n: usize) -> i64
         requires { n < 8 }
         ensures { (xs : List ℤ) (i : ℕ) → ColumnOf xs i self → SumAt xs (8 * i + n) result }

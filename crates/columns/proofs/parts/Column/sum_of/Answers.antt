@@ -1,5 +1,5 @@
 -- Each arm is the column's sum for a parity and a character.
-use Rattle.std.proofs.Common.{rules, ◌≢◌, ◌≡◌, ℕ, ◌<◌, arith, lit<}
+use Rattle.std.proofs.Common.{rules, ◌≡◌, lit<}
 use Rattle.signed.proofs.Locals.{sum_reads, diff_reads}
 use Rattle.columns.proofs.Summing.{eight}
 use Rattle.columns.proofs.parts.Column.sum_of.Goals as goal
@@ -39,16 +39,8 @@ returns-in-6 c xs i C =
     let t = c.args.self in
     rw (diff_reads t.upper.narrow_sum t.lower.narrow_difference (lit< tt)) ((eight i c.args.n C).odd-w c.in-6.is)
 
--- below eight and none of the first seven, in two steps: `omega` takes no more than six such facts at once
-past_three : (n : ℕ) → n ≢ 0 → n ≢ 1 → n ≢ 2 → n ≢ 3 → 3 < n
-past_three n a b c d = omega arith
-
-seven : (n : ℕ) → 3 < n → n < 8 → n ≢ 4 → n ≢ 5 → n ≢ 6 → n ≡ 7
-seven n h l a b c = omega arith
-
 pub returns-in_default : goal.returns-in_default
 returns-in_default c xs i C =
     let t = c.args.self in
-    let h = past_three c.args.n (search rules) (search rules) (search rules) (search rules) in
-    let e = seven c.args.n h c.requires (search rules) (search rules) (search rules) in
+    let e : c.args.n ≡ 7 = search rules in
     rw (sum_reads t.upper.narrow_sum t.lower.narrow_difference (lit< tt)) ((eight i c.args.n C).odd-v e)
