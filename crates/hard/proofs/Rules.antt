@@ -18,14 +18,6 @@ module _ (word pattern : ℕ) where
   unfolding find_rule
   find-within h = simp (lt-leb words word h)
 
-  pub apply-word : words ≤ word → apply_rule word pattern ≡ refused 4
-  unfolding apply_rule
-  apply-word h = simp (le-leb words word h)
-
-  pub apply-pattern : word < words → words ≤ pattern → apply_rule word pattern ≡ refused 4
-  unfolding apply_rule
-  apply-pattern g h = simp (lt-leb words word g, le-leb words pattern h)
-
   pub apply-within : word < words → pattern < words → apply_rule word pattern ≡ accepted (bit_xor word pattern)
   unfolding apply_rule
   apply-within g h = simp (lt-leb words word g, lt-leb words pattern h)

@@ -25,6 +25,7 @@ pub fn find(word: u32) -> Result<Found, Refusal>
 }
 
 // The exclusive or of a word and a pattern. Refuses 4 for either.
+#[tactic(auto, unfolding(crate::specs::Calls::apply_rule))]
 pub fn apply(word: u32, pattern: Pattern) -> Result<u32, Refusal>
     ensures { apply_answer result ≡ apply_rule word pattern.0 }
 {

@@ -14,11 +14,8 @@ returns-in_err-found c = search (rules, writes_refused)
 pub returns-then-found-ne4 : goal.returns-then-found-ne4
 returns-then-found-ne4 c = writes-other c.args.slots.now (omega arith) (finds_answer c.in_ok-found.ensures) (omega arith)
 
-pub fill-requires : goal.fill-requires
-fill-requires c = record {
-  at_four = at-four (finds_answer c.in_ok-found.ensures) c.syndrome_of.ensures (omega arith);
-  slots_len = omega arith;
-}
+pub fill-requires-clause-at_four : goal.fill-requires-clause-at_four
+fill-requires-clause-at_four c = at-four (finds_answer c.in_ok-found.ensures) c.syndrome_of.ensures (omega arith)
 
 pub returns : goal.returns
 returns c =
