@@ -43,6 +43,7 @@ fn fillings(reading: &[i32]) -> Result<Codeword, Refusal>
 }
 
 // The quick decoder's codeword (rules 9.7 and 9.8). Refuses 1, then 2, then 6 for a reading without zeros and 14 for one with zeros.
+#[tactic(auto, unfolding(crate::specs::Quick::QuickRule))]
 pub fn quick(reading: &[i32]) -> Result<Codeword, Refusal>
     ensures { QuickRule reading.now (quick_answer result) }
 {

@@ -6,11 +6,8 @@ use Rattle.signs.specs.Signs.{whole, sign_word}
 use Rattle.signs.proofs.Whole.{whole-itself}
 use Rattle.decision.specs.Decision.{decision_answer, Decides}
 use Rattle.quick.specs.Quick.{quick_answer, Settles, QuickRule}
-use Rattle.quick.proofs.Rules.{tied_refused, quick-length, quick-negative, quick-signs, quick_settles}
+use Rattle.quick.proofs.Rules.{tied_refused, quick-signs, quick_settles}
 use Rattle.quick.proofs.quick.Goals as goal
-
-pub returns-then-reading-ne-POSITIONS : goal.returns-then-reading-ne-POSITIONS
-returns-then-reading-ne-POSITIONS c = quick-length c.args.reading.now c.if-reading-ne-POSITIONS.true
 
 pub returns-then-clear : goal.returns-then-clear
 returns-then-clear c =
@@ -23,10 +20,6 @@ returns-then-clear c =
     subst (QuickRule xs) (sym (tied_refused c.decide.result) ∙ ap quick_answer (sym o.value))
     (quick-signs xs l (c.clear.ensures.valid c.if-clear.true) a (c.clear.ensures.none c.if-clear.true)
     (subst (λ (ys : List ℤ). Decides (sign_word xs) ys a) w (subst (λ (n : ℕ). Decides n (whole 24 xs) a) e c.decide.ensures)))
-
-pub returns-then-most_negative : goal.returns-then-most_negative
-returns-then-most_negative c =
-    quick-negative c.args.reading.now c.if-reading-ne-POSITIONS.false (sym c.most_negative.ensures.is ∙ c.if-most_negative.true)
 
 pub returns : goal.returns
 returns c =
