@@ -4,7 +4,7 @@ use Rattle.contest.specs.Kept.{lowest, Kept, run}
 use Rattle.contest.specs.declared.Keeper.{Keeper}
 use Rattle.contest.specs.Figures.{code}
 use Rattle.code.specs.Characters.{fourth, fifth, sixth}
-use Rattle.classes.specs.Classes.{classes, parity_of, characters_of, reached_of}
+use Rattle.classes.specs.Classes.{parity_of, characters_of, reached_of}
 use Rattle.columns.specs.Columns.{place, picks}
 use Rattle.pairs.specs.Pairs.{widest}
 
@@ -36,10 +36,6 @@ middle_of k = parity_of k * 16 + k % 4 * 4 + fourth (k / 16 % 4) (k / 4 % 4) (k 
 
 abbrev pub last_of : ℕ → ℕ
 last_of k = 32 + parity_of k * 16 + fifth (k / 16 % 4) (k / 4 % 4) (k % 4) * 4 + sixth (k / 16 % 4) (k / 4 % 4) (k % 4)
-
--- a table of a class's places
-abbrev pub Table : (ℕ → ℕ) → List ℕ → Type 0
-Table f t = (k : ℕ) → k < classes → get_or t k 0 ≡ f k
 
 -- ---- Rule 8.4: the figure, of the sum of a class's codes and its parity, and of its least code
 

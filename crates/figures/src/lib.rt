@@ -9,7 +9,7 @@ ghost use Rattle.contest.specs.Kept.{Kept, run};
 ghost use Rattle.classes.specs.Classes.{classes};
 ghost use Rattle.columns.specs.Columns.{far};
 ghost use Rattle.pairs.specs.Pairs.{widest, Pairs};
-ghost use Rattle.figures.specs.Figures.{Codes, middle_of, last_of, Table, Usable, figure_from, figure_at, KeptUpTo, reached_from};
+ghost use Rattle.figures.specs.Figures.{Codes, middle_of, last_of, Usable, figure_from, figure_at, KeptUpTo, reached_from};
 
 use columns::ColumnSums;
 use contest::Keeper;
@@ -35,6 +35,23 @@ const LAST: [u8; 128] = [
     52, 49, 62, 59, 63, 58, 53, 48,
 ];
 
+// Class k's place in each.
+fn middle(k: usize) -> usize
+    requires { k < classes }
+    ensures is { result ≡ middle_of k }
+    ensures small { result < 64 }
+{
+    MIDDLE[k] as usize
+}
+
+fn last(k: usize) -> usize
+    requires { k < classes }
+    ensures is { result ≡ last_of k }
+    ensures small { result < 64 }
+{
+    LAST[k] as usize
+}
+
 fn coded(v: i64) -> u64
     requires { Within 8589934592 v }
     ensures { result ≡ code v }
@@ -51,18 +68,14 @@ struct FirstPair {
     ghost small_least: { least ≤ 2 * widest },
 }
 
-// The other columns in pairs: their codes added, and the smaller of them; and where each class finds its own. The tables are laid out once.
+// The other columns in pairs: their codes added, and the smaller of them.
 // Stays: as one array of pairs the sums and leasts are no plainer: `pair_sums` and `pair_leasts`, which are public, each make one of them.
 #[derive(Drop)]
 struct OtherPairs {
     sums: [u64; 64],
     leasts: [u64; 64],
-    middle: [u8; 128],
-    last: [u8; 128],
     ghost usable_sums: { Usable sums },
     ghost usable_leasts: { Usable leasts },
-    ghost middle_table: { Table middle_of middle },
-    ghost last_table: { Table last_of last },
 }
 
 impl OtherPairs {
@@ -72,14 +85,7 @@ impl OtherPairs {
     {
         let sums = pair_sums(&codes.values);
         let leasts = pair_leasts(&codes.values);
-        let middle = MIDDLE;
-        let last = LAST;
-        OtherPairs {
-            sums,
-            leasts,
-            middle,
-            last,
-        }
+        OtherPairs { sums, leasts }
     }
 
     // The figure of class k, whose first two codes are added with its parity, so that the sum is odd where the favoured top bits have not that
@@ -89,8 +95,8 @@ impl OtherPairs {
         ensures value { result ≡ figure_from self.now.sums self.now.leasts first.sum first.least k }
         ensures within { Within far result }
     {
-        let i = self.middle[k] as usize;
-        let j = self.last[k] as usize;
+        let i = middle(k);
+        let j = last(k);
         let s = first.sum + self.sums[i] + self.sums[j];
         let l = smaller(self.leasts[j], smaller(self.leasts[i], first.least));
         (s / 8) as i64 - (2 * (l / 8) * (s % 2)) as i64

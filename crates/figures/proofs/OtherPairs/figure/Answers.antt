@@ -1,30 +1,10 @@
--- The tables say where the class's pairs stand.
-use Rattle.std.proofs.Common.{◌≡◌, List, ℕ, ◌+◌, ◌*◌, ◌/◌, ◌%◌, ◌<◌, ◌≤◌, min, ◌-ℤ◌, get_or, to_z, of_z, w64, arith, ap, ◌∙◌}
+-- The figure is that of the sum and of the least, read back from 64 bits.
+use Rattle.std.proofs.Common.{◌≡◌, ℕ, ◌+◌, ◌*◌, ◌/◌, ◌%◌, ◌≤◌, min, ◌-ℤ◌, get_or, to_z, of_z, w64, arith, ap, ◌∙◌}
 use Rattle.signed.proofs.Locals.{cast_diff_reads}
-use Rattle.classes.specs.Classes.{classes}
 use Rattle.pairs.specs.Pairs.{widest}
-use Rattle.figures.specs.Figures.{middle_of, last_of, Table, scored}
-use Rattle.figures.proofs.Scoring.{middle_small, last_small, figure-read, taken_off, scored-within}
+use Rattle.figures.specs.Figures.{scored}
+use Rattle.figures.proofs.Scoring.{figure-read, taken_off, scored-within}
 use Rattle.figures.proofs.OtherPairs.figure.Goals as goal
-
--- where the class's pairs stand, as the tables say
-middle-at : (t : List ℕ) (k : ℕ) → k < classes → Table middle_of t → get_or t k 0 < 64
-middle-at t k h T = rw (T k h) (middle_small k)
-
-last-at : (t : List ℕ) (k : ℕ) → k < classes → Table last_of t → get_or t k 0 < 64
-last-at t k h T = rw (T k h) (last_small k)
-
-pub bounds-self-i : goal.bounds-self-i
-bounds-self-i c = middle-at _ c.args.k c.requires c.args.self.now.middle_table
-
-pub bounds-self-j : goal.bounds-self-j
-bounds-self-j c = last-at _ c.args.k c.requires c.args.self.now.last_table
-
-pub bounds-self-j-2 : goal.bounds-self-j-2
-bounds-self-j-2 c = last-at _ c.args.k c.requires c.args.self.now.last_table
-
-pub bounds-self-i-2 : goal.bounds-self-i-2
-bounds-self-i-2 c = middle-at _ c.args.k c.requires c.args.self.now.middle_table
 
 -- the sum of all codes, and the least, read back
 scored_reads : (s l : ℕ) → s ≤ 6 * widest + 1 → l ≤ 2 * widest
@@ -37,21 +17,21 @@ returns-clause-value c =
     let P = c.args.self.now in
     let first = c.args.first in
     let k = c.args.k in
-    let i = get_or P.middle k 0 in
-    let j = get_or P.last k 0 in
+    let i = c.middle-i.result in
+    let j = c.last-j.result in
     let s = first.sum + get_or P.sums i 0 + get_or P.sums j 0 in
     let l = c.smaller-l.result in
     let l-is : l ≡ min (get_or P.leasts j 0) (min (get_or P.leasts i 0) first.least) = c.smaller-l.ensures ∙ ap (min (get_or P.leasts j 0)) c.smaller.ensures in
     scored_reads s l (omega (arith, first.small_sum, P.usable_sums i, P.usable_sums j)) (omega (arith, l-is, P.usable_leasts j))
     ∙ ap (scored s) l-is
-    ∙ figure-read P.sums P.leasts first.sum first.least k (P.middle_table k c.requires) (P.last_table k c.requires)
+    ∙ figure-read P.sums P.leasts first.sum first.least k c.middle-i.ensures.is c.last-j.ensures.is
 
 pub returns-clause-within : goal.returns-clause-within
 returns-clause-within c =
     let P = c.args.self.now in
     let first = c.args.first in
-    let i = get_or P.middle c.args.k 0 in
-    let j = get_or P.last c.args.k 0 in
+    let i = c.middle-i.result in
+    let j = c.last-j.result in
     let s = first.sum + get_or P.sums i 0 + get_or P.sums j 0 in
     let l = c.smaller-l.result in
     let a : s ≤ 6 * widest + 1 = omega (arith, first.small_sum, P.usable_sums i, P.usable_sums j) in
