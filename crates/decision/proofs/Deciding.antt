@@ -25,9 +25,6 @@ module _ {word : ℕ} {xs : List ℤ} where
   pub corrected_decides : {c : Correction} → Corrects word (accepted c) → Decides word xs (accepted c.codeword)
   corrected_decides {c} p = record { correction = accepted c; corrects = p; follows = refl }
 
-  pub chosen_decides : {n : ℕ} {a : Answer ℕ} → Corrects word (refused n) → Chosen word xs a → Decides word xs a
-  chosen_decides {n} p c = record { correction = refused n; corrects = p; follows = c }
-
   pub gives_compared : {c d : ℕ} → Decides word xs (accepted d) → Gives c word xs (eqb d c)
   gives_compared {c} {d} p = record {
     gives = λ e. subst (λ (k : ℕ). Decides word xs (accepted k)) (eqb-true d c e) p;

@@ -32,7 +32,9 @@ fn cheapest(word: u32, slots: &[u32; 6], reading: &[i32]) -> Keeper
     kept
 }
 
-// The candidate that costs least, for a word that correction refuses; none where two share the least cost.
+// The candidate that costs least, for a word that correction refuses; none where two share the least cost. It is long, and few words come to it:
+// put into `decide`, it would slow down all the others.
+#[inline(never)]
 fn chosen(word: u32, reading: &[i32]) -> Option<Codeword>
     requires { AtFour word (syndrome_of word) }
     ensures { Chosen word (whole positions reading.now) (decision_answer result) }
@@ -58,14 +60,9 @@ pub fn decide(word: u32, reading: &[i32]) -> Option<Codeword>
     }
 }
 
-// Whether a word is decided for a codeword. Correction comes first here too, in place of `decide`: so `chosen`, which is long, has two callers,
-// and the compiler puts it into neither.
+// Whether a word is decided for a codeword.
 pub fn gives(codeword: Codeword, word: u32, reading: &[i32]) -> bool
     ensures { Gives codeword.0 (word % words) (whole positions reading.now) result }
 {
-    let w = word % WORDS;
-    match hard::correct(w) {
-        Ok(corrected) => corrected.codeword == codeword,
-        Err(_) => chosen(w, reading) == Some(codeword),
-    }
+    decide(word, reading) == Some(codeword)
 }
