@@ -1,5 +1,5 @@
 -- What it is in numbers that a buffer holds a reading; what the reading's part is, and where it begins.
-use mathlib.Core.Path.{◌≡◌, ap}
+use mathlib.Core.Path.{◌≡◌}
 use mathlib.Core.Logic.{◌≢◌}
 use mathlib.Core.Bool.{Bool, true, false, cond, ◌&&◌}
 use mathlib.Core.List.{List, []}
@@ -43,7 +43,3 @@ module _ (buffer : List ℤ) (number : ℕ) where
 
     pub begins-none : (at : ℕ × ℕ) → cond (has_reading buffer number) (place_at at number) at ≡ at
     begins-none at = simp e
-
--- a part from the first place on begins where the buffer does
-pub from_start : (at : ℕ × ℕ) → (at.0, 0 + at.1) ≡ at
-from_start at = ap (λ (offset : ℕ). (at.0, offset)) (omega arith)

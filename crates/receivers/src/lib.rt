@@ -13,10 +13,7 @@ use choices::larger_reserve;
 pub fn choice(first: &[i32], second: &[i32], number: usize) -> Choice
     ensures { Chooses first.now second.now number (receiver result) }
 {
-    if !has_reading(first, number) {
-        return Choice::Neither;
-    }
-    if !has_reading(second, number) {
+    if !has_reading(first, number) || !has_reading(second, number) {
         return Choice::Neither;
     }
     let one = soft::soft(reading_at(first, number));
@@ -24,13 +21,14 @@ pub fn choice(first: &[i32], second: &[i32], number: usize) -> Choice
     larger_reserve(one, other)
 }
 
-// The better reading with this number, as a part of the buffer in which it stands (rule 17.5).
+// The better reading with this number, as a part of the buffer in which it stands; an empty part where there is none (rule 17.5).
+// Stays: no Option, as in `buffers::reading_at`: `LendsBetter` says where an empty part begins.
 pub fn better<'a>(first: &'a [i32], second: &'a [i32], number: usize) -> &'a [i32]
     ensures { LendsBetter first.entry second.entry number result }
 {
     match choice(first, second, number) {
         Choice::First => reading_at(first, number),
         Choice::Second => reading_at(second, number),
-        Choice::Neither => &first[0..0],
+        Choice::Neither => &first[..0],
     }
 }

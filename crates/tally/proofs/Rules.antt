@@ -1,26 +1,23 @@
 -- The count's rule, taken apart, and its promise where the table's length and the soft decoder's answer are known.
 -- Assumes nothing.
-use mathlib.Core.Path.{◌≡◌, refl, sym, ap, ◌∙◌}
-use mathlib.Core.Bool.{Bool, true, false}
+use mathlib.Core.Path.{◌≡◌, sym, ap, ◌∙◌}
 use mathlib.Core.List.{List}
-use Prim.Native.Nat.{ℕ, ◌+◌, ◌≤◌}
-use native.Mathlib.Omega.{arith}
+use Prim.Native.Nat.{ℕ}
 use lib.IntN.{ℤ}
 use lib.ListN.{length}
 use borrow.Author.Tests.{eq-eqb, ne_eqb}
 use Rattle.code.specs.Code.{messages}
-use Rattle.golay.specs.declared.kinds.Refusal.TheVariants.{CountFull}
-use Rattle.golay.specs.Answers.{Answer, accepted, refused, refuse}
+use Rattle.std.specs.Prelude.{Result, Ok, Err}
+use Rattle.golay.specs.Answers.{Answer, accepted, refused}
 use Rattle.soft.specs.declared.kinds.Soft.{Soft}
 use Rattle.soft.specs.Calls.{SoftRule}
 use Rattle.decoding.specs.Decoding.{message_and_reserve}
 use Rattle.decoding.proofs.Decoding.{tells}
 use Rattle.hands.specs.Hands.{HandsBack, itself}
-use Rattle.hands.proofs.Hands.{hands_refusal}
+use Rattle.hands.proofs.Hands.{hands_value, hands_refusal}
 use Rattle.totals.specs.declared.kinds.Tally.{Tally}
-use Rattle.totals.specs.Totals.{Totals, totals, with_accepted, accepted_full, accepted_rule}
-use Rattle.totals.proofs.Rules.{accepted-room}
-use Rattle.tally.specs.Counts.{with_table, answer_rule, count_rule, Counts}
+use Rattle.totals.specs.Totals.{Totals, totals, numbered}
+use Rattle.tally.specs.Counts.{with_table, answer_rule, count_rule, Counts, tally_after, status_of}
 
 -- by the table's length
 module _ (T : Totals) (answer : Answer (ℕ × ℕ)) where
@@ -33,34 +30,16 @@ module _ (T : Totals) (answer : Answer (ℕ × ℕ)) where
   table_right l = simp (eq-eqb (length T.table) messages l)
 
 -- the tally's own promise, with the table: raised where the reading was counted, else as it was
-module _ (t u : Tally) (table raised : List ℕ) (status : ℕ) where
-  pub table_raised :
-      (full : Bool) (w : Tally)
-      → HandsBack (refuse CountFull full (accepted w)) itself t u status
-      → status ≡ 0
-      → HandsBack (with_table raised (refuse CountFull full (accepted w))) itself (totals t table) (totals u raised) status
-  table_raised true w h z = let n : status ≡ 12 = h.status_is in absurd (omega (arith, n, z))
-  table_raised false w h z = record { status_is = h.status_is; output-is = ap (λ (v : Tally). totals v raised) h.output-is }
+module _ (t : Tally) (table : List ℕ) {a : Answer Tally} where
+  pub table_raised : (raised : List ℕ) {u : Tally} → accepted u ≡ a → HandsBack (with_table raised a) itself (totals t table) (totals u raised) 0
+  table_raised raised e = hands_value (ap (with_table raised) e)
 
-  pub table_unraised :
-      (full : Bool) (w : Tally)
-      → HandsBack (refuse CountFull full (accepted w)) itself t u status
-      → (status ≡ 0 → ⊥)
-      → HandsBack (with_table raised (refuse CountFull full (accepted w))) itself (totals t table) (totals u table) status
-  table_unraised true w h d = record { status_is = h.status_is; output-is = ap (λ (v : Tally). totals v table) h.output-is }
-  table_unraised false w h d = absurd (d h.status_is)
+  pub table_unraised : (raised : List ℕ) {n : ℕ} → refused n ≡ a → HandsBack (with_table raised a) itself (totals t table) (totals t table) n
+  table_unraised raised e = hands_refusal (ap (with_table raised) e)
 
-  pub table_same : (a : Answer Tally) → HandsBack a itself t u status → HandsBack (with_table table a) itself (totals t table) (totals u table) status
-  table_same (accepted w) h = record { status_is = h.status_is; output-is = ap (λ (v : Tally). totals v table) h.output-is }
-  table_same (refused n) h = record { status_is = h.status_is; output-is = ap (λ (v : Tally). totals v table) h.output-is }
-
--- a reading that was counted left its message's count below the end
-pub counted-count : (t u : Tally) (count ρ status : ℕ) → HandsBack (accepted_rule t count ρ) itself t u status → status ≡ 0 → count + 1 ≤ 4294967295
-counted-count t u count ρ status h z = cases (accepted_full t count ρ) refl h
-  where
-    cases : (full : Bool) → accepted_full t count ρ ≡ full → HandsBack (refuse CountFull full (accepted (with_accepted t ρ))) itself t u status → count + 1 ≤ 4294967295
-    cases true e p = let n : status ≡ 12 = p.status_is in absurd (omega (arith, n, z))
-    cases false e p = (accepted-room t count ρ e).message-room
+  pub table_same : (r : Result Tally ℕ) → numbered r ≡ a → HandsBack (with_table table a) itself (totals t table) (totals (tally_after t r) table) (status_of r)
+  table_same (Ok u) e = table_raised table e
+  table_same (Err n) e = table_unraised table e
 
 -- the promise, by the table's length and an answer that the soft decoder's promise allows
 pub counts_wrong : (xs : List ℤ) (T : Totals) → (length T.table ≡ messages → ⊥) → Counts xs T T 1

@@ -3,46 +3,45 @@
 #![tactic(auto)]
 
 ghost use Rattle.totals.specs.Totals.{totals};
-ghost use Rattle.tally.specs.Counts.{Counts};
+ghost use Rattle.tally.specs.Counts.{Counts, tally_after, status_of};
 
 use golay::MESSAGES;
 use golay::kinds::Refusal;
-use soft::kinds::SoftAnswer;
-use totals::kinds::{Step, Tally};
+use totals::kinds::Tally;
 use totals::{count_accepted, count_refused};
 
 // A table has a count for each message.
 pub const TABLE: usize = MESSAGES as usize;
 
 // Counts a reading, by value: the tally after it. Refuses 1, then 12.
-pub fn counted(t: Tally, counts: &mut [u32], reading: &[i32]) -> Step
-    ensures { Counts reading.now (totals t counts.old) (totals result.tally counts.new) result.status }
+// Stays: an error that is a number, as `count_refused` hands it back.
+pub fn counted(t: Tally, counts: &mut [u32], reading: &[i32]) -> Result<Tally, u8>
+    ensures { Counts reading.now (totals t counts.old) (totals (tally_after t result) counts.new) (status_of result) }
 {
     if counts.len() != TABLE {
-        return Step {
-            tally: t,
-            status: golay::refusal_number(Refusal::WrongLength),
-        };
+        return Err(u8::from(Refusal::WrongLength));
     }
     match soft::soft(reading) {
-        SoftAnswer::Accepted(values) => {
-            let place = values.message.0 as usize;
-            let count = counts[place];
-            let step = count_accepted(t, count, signed::size(values.reserve));
-            if step.status == 0 {
-                counts[place] = count + 1;
-            }
-            step
+        Ok(values) => {
+            let count = &mut counts[values.message.0 as usize];
+            let tally = count_accepted(t, *count, signed::size(values.reserve))?;
+            *count += 1;
+            Ok(tally)
         }
-        SoftAnswer::Refused(reason) => count_refused(t, golay::refusal_number(reason)),
+        Err(reason) => count_refused(t, u8::from(reason)),
     }
 }
 
 // Counts a reading, in place. Refuses 1, then 12.
+// Stays: the C interface asks for the number, and for 0 where the reading was counted.
 pub fn count(tally: &mut Tally, counts: &mut [u32], reading: &[i32]) -> u8
     ensures { Counts reading.now (totals tally.old counts.old) (totals tally.new counts.new) result }
 {
-    let s = counted(*tally, counts, reading);
-    *tally = s.tally;
-    s.status
+    match counted(*tally, counts, reading) {
+        Ok(after) => {
+            *tally = after;
+            0
+        }
+        Err(number) => number,
+    }
 }

@@ -1,6 +1,5 @@
 -- The chosen receiver's buffer holds the reading, and the part is that reading in its place.
 use Rattle.std.proofs.Common.{refl}
-use Rattle.buffers.proofs.Holding.{from_start}
 use Rattle.receivers.proofs.Choosing.{lends_first, lends_second}
 use Rattle.receivers.proofs.better.Goals as goal
 
@@ -13,4 +12,4 @@ returns-in-Second c = lends_second c.choice.ensures c.in-Second.is c.reading_at-
 pub returns-in-Neither : goal.returns-in-Neither
 returns-in-Neither c =
     let p = rw c.in-Neither.is at c.choice.ensures in
-    record { better = record { choice = 0; chooses = p; is = refl }; begins = from_start c.args.first.ref_ptr }
+    record { better = record { choice = 0; chooses = p; is = refl }; begins = refl }
