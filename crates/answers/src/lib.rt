@@ -4,19 +4,16 @@
 ghost use Rattle.answers.specs.Telling.{Tells};
 
 use sequence::kinds::Follows;
-use soft::kinds::SoftAnswer;
 
 // A line that does not fit is not begun, as in `lines`.
 pub fn write_answer(reading: &[i32], follows: Follows, out: &mut [u8], at: usize) -> usize
     ensures { Tells reading.now follows out.old at out.new result }
 {
     match soft::soft(reading) {
-        SoftAnswer::Accepted(values) => {
+        Ok(values) => {
             let reserve = signed::size(values.reserve);
             lines::write_accepted(values.message.0, reserve, follows, out, at)
         }
-        SoftAnswer::Refused(reason) => {
-            lines::write_refused(golay::refusal_number(reason), follows, out, at)
-        }
+        Err(reason) => lines::write_refused(u8::from(reason), follows, out, at),
     }
 }
