@@ -48,6 +48,7 @@ fn fill(word: u32, s: u32, slots: &mut [u32])
 }
 
 // Writes the six codewords at distance four from a word to six slots, the least first. Refuses 1, then 4, then 8, and then no slot changes.
+// Stays: word and slots are two parameters, as the C interface hands them in; `fill` writes where the call does.
 pub fn candidates(word: u32, slots: &mut [u32]) -> Result<(), Refusal>
     ensures { WritesCandidates word slots.old (candidates_answer result) slots.new }
 {

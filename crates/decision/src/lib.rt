@@ -50,6 +50,7 @@ fn chosen(word: u32, reading: &[i32]) -> Option<Codeword>
 
 // What a word is decided for, by a reading, or none where it is tied. Of a number that is no word the lowest 24 bits count, and by a slice that
 // is no reading nothing costs anything.
+// Stays: word and reading are two parameters: of one reading with zeros up to 16 words are asked, and a struct would be made for each.
 pub fn decide(word: u32, reading: &[i32]) -> Option<Codeword>
     ensures { Decides (word % words) (whole positions reading.now) (decision_answer result) }
 {
