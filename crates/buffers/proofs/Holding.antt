@@ -14,7 +14,7 @@ use Rattle.buffers.specs.Buffers.{has_reading, reading_at, place_at}
 
 second_true : (a b : Bool) → (a && b) ≡ true → b ≡ true
 second_true true b e = e
-second_true false b e = let z : ◌≡◌ {A = ℕ} 0 1 = cc in absurd (omega arith)
+second_true false b e = cc
 
 module _ (buffer : List ℤ) (number : ℕ) where
   pub whole_has : length buffer % positions ≡ 0 → has_reading buffer number ≡ ltb number (length buffer / positions)

@@ -26,7 +26,7 @@ use Rattle.receivers.proofs.Decided.{choice_by}
 -- ---- of one reading
 
 not-accepted : {A : Type 0} {x : Soft} {n : ℕ} → refused n ≡ accepted x → A
-not-accepted e = let z : ◌≡◌ {A = ℕ} 0 1 = cc in absurd (omega arith)
+not-accepted e = cc
 
 module _ (xs : List ℤ) (x : Soft) (r : SoftRule xs (accepted x)) where
   not-refused : {A : Type 0} (n : ℕ) → SoftRule xs (refused n) → A
@@ -142,7 +142,7 @@ pub data NoBetter (first second : List ℤ) (number : ℕ) : Type 0 where
 
 module _ (first second : List ℤ) (number : ℕ) where
   below_both : (t u : Bool) → ltb number (length first / positions) ≡ t → ltb number (length second / positions) ≡ u → (t && u) ≡ false → shorter first second ≤ number
-  below_both true true a b e = let z : ◌≡◌ {A = ℕ} 0 1 = cc in absurd (omega arith)
+  below_both true true a b e = cc
   below_both true false a b e = let h = ltb-false number (length second / 24) b in omega arith
   below_both false u a b e = let h = ltb-false number (length first / 24) a in omega arith
 

@@ -53,7 +53,7 @@ module _ {xs : List ℤ} (X : Valid xs) where
           let g : s ≡ values xs m ρ = cc in
           let h : m ≡ s.message.0 = ap (λ (t : Soft). t.message.0) (sym g) in
           (ρ, g ∙ ap (λ (n : ℕ). values xs n ρ) h, rw h at a)
-      go contest.tied t e = let z : ◌≡◌ {A = ℕ} 0 1 = cc in absurd (omega arith)
+      go contest.tied t e = cc
 
   -- ---- demand 2 (14.2)
 
@@ -93,7 +93,7 @@ module _ {xs : List ℤ} (X : Valid xs) where
   refused-tied {n} r = go (decides r).outcome (decides r).answers (decides r).is
     where
       go : (p : contest.Answer) → Answers messages word xs p → refused n ≡ told xs p → Tied messages word xs × (n ≡ 6)
-      go (contest.accepted m ρ) a e = let z : ◌≡◌ {A = ℕ} 0 1 = cc in absurd (omega arith)
+      go (contest.accepted m ρ) a e = cc
       go contest.tied t e = (t, cc)
 
   -- Rule 7.1: a reading with one best word is accepted, for that word
