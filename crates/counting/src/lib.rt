@@ -18,8 +18,7 @@ pub fn count_records(bytes: &[u8], last: bool, t: Tally, table: &mut [u32]) -> C
     let mut walk = Walk::new(bytes, last);
     let mut tally = t;
     while let Some(record) = walk.next_record() {
-        let step = tally::counted(tally, table, &record.reading);
-        tally = step.tally;
+        tally = tally::counted(tally, table, &record.reading).unwrap_or(tally);
     }
     Counted {
         tally,

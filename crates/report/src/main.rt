@@ -123,14 +123,7 @@ fn main(rt: HostRuntime) -> ExitCode {
     let mut system = System::new(rt);
     system.shows = system.is_watched();
     let mut counts = Counts {
-        tally: Tally {
-            read: 0,
-            accepted: 0,
-            refused_2: 0,
-            refused_6: 0,
-            smallest: 0,
-            total: 0,
-        },
+        tally: Tally::default(),
         table: [0; TABLE],
         stop: None,
     };

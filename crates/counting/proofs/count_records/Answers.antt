@@ -1,7 +1,10 @@
 -- By what stands where the walk has come to: a record is counted, or the run ends there or stops.
-use Rattle.std.proofs.Common.{◌≡◌, refl, sym, ap, ◌∙◌, arith, Option, None, Some}
+use Rattle.std.proofs.Common.{ℕ, Result, Ok, Err, ◌≡◌, refl, ap, ◌∙◌, arith}
 use Rattle.records.proofs.Standing.{whole_takes, takes_room}
+use Rattle.std.specs.Result.{result_unwrap_or}
+use Rattle.totals.specs.declared.kinds.Tally.{Tally}
 use Rattle.totals.specs.Totals.{totals}
+use Rattle.tally.specs.Counts.{tally_after}
 use Rattle.contents.proofs.Walks.{place_is, walk-passed, passed-reading, passed-bytes, passed-last}
 use Rattle.counting.proofs.Upto.{up_start, up_record, up_done}
 use Rattle.counting.proofs.count_records.Goals as goal
@@ -20,17 +23,24 @@ loop-record-smaller c =
     let room = takes_room (whole_takes c.args.last c.args.bytes.now c.loop-record.walk.at stands) in
     omega (arith, room.0, room.1)
 
+-- a count that is refused leaves the tally as it was
+kept : (t : Tally) (r : Result Tally ℕ) → result_unwrap_or r t ≡ tally_after t r
+kept t (Ok later) = refl
+kept t (Err n) = refl
+
 pub loop-record-preserved : goal.loop-record-preserved
 loop-record-preserved c =
     let I = c.loop-record.invariant in
     let P = c.in-Some.ensures.passes in
     let reading = passed-reading c.loop-record.walk I.bytes I.last P in
+    let after = c.unwrap_or-tally.ensures ∙ kept c.loop-record.tally c.counted.result in
     record {
       bytes = passed-bytes c.loop-record.walk I.bytes I.last P;
       last = passed-last c.loop-record.walk I.bytes I.last P;
-      upto = up_record c.args.last c.args.bytes.now (totals c.args.t c.args.table.now) I.upto
+      upto = rw after
+          (up_record c.args.last c.args.bytes.now (totals c.args.t c.args.table.now) I.upto
           (walk-passed c.loop-record.walk I.bytes I.last P)
-          (rw reading at c.counted-step.ensures);
+          (rw reading at c.counted.ensures));
     }
 
 pub returns : goal.returns

@@ -1,6 +1,6 @@
 -- All bytes that were held are counted or left, by what a turn leaves.
 -- Assumes nothing.
-use Rattle.std.proofs.Common.{◌≡◌, ◌≤◌, arith, length, ap}
+use Rattle.std.proofs.Common.{◌≤◌, arith, length, ap}
 use Rattle.counting.specs.Counting.{stop_number}
 use Rattle.counting.proofs.Decided.{turn_left}
 use Rattle.report.proofs.CountsTurns.turn.Goals as goal
