@@ -10,6 +10,7 @@ use columns::{CLASSES, class_column};
 use golay::kinds::Refusal;
 
 // The figure of a column in a class, with its sign: positive where top bit 0 is favoured. Refuses 1, then 2, then 11, then 18.
+// Stays: reading, class and column stand apart, as the C interface hands them.
 pub fn column_figure(reading: &[i32], class: u32, column: u32) -> Result<i64, Refusal>
     ensures { column_figure_answer result ≡ column_figure_rule reading.now class column }
 {

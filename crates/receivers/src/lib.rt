@@ -10,6 +10,7 @@ use choices::kinds::Choice;
 use choices::larger_reserve;
 
 // The receiver that has the better reading with this number (rules 17.2 to 17.4).
+// Stays: the two buffers and the number stand apart, as the C interface hands them.
 pub fn choice(first: &[i32], second: &[i32], number: usize) -> Choice
     ensures { Chooses first.now second.now number (receiver result) }
 {

@@ -60,6 +60,7 @@ pub fn soft(reading: &[i32]) -> Result<Soft, Refusal>
 }
 
 // The largest correlation among the 32 codewords of a class. Refuses 1, then 2, then 11.
+// Stays: reading and class stand apart, as the C interface hands them.
 pub fn class_figure(reading: &[i32], class: u32) -> Result<i64, Refusal>
     ensures { ClassFigureRule reading.now class (class_figure_answer result) }
 {
