@@ -1,19 +1,19 @@
 -- The quick decoder's rule, taken apart: what it allows where its tests are known; and that two answers that it allows are equal.
 -- Assumes nothing.
 use mathlib.Core.Path.{◌≡◌, refl, sym, ap, subst}
-use mathlib.Core.Bool.{false}
+use mathlib.Core.Bool.{true, false}
 use mathlib.Core.List.{List}
 use Prim.Native.Nat.{ℕ, zero, suc, ◌<◌}
 use native.Mathlib.Omega.{arith}
 use lib.IntN.{ℤ}
 use lib.ListN.{length}
-use borrow.Author.Tests.{eq-eqb}
+use borrow.Author.Tests.{eq-eqb, ne_eqb}
 use Rattle.code.specs.Code.{positions}
 use Rattle.std.specs.Prelude.{Result, Option, Some, None, ok_or}
 use Rattle.golay.specs.declared.kinds.Codeword.{Codeword}
 use Rattle.golay.specs.declared.kinds.Refusal.{Refusal}
 use Rattle.golay.specs.declared.kinds.Refusal.TheVariants.{WrongLength, MostNegative, Tied}
-use Rattle.golay.specs.Answers.{Answer, accepted}
+use Rattle.golay.specs.Answers.{Answer, accepted, refused}
 use Rattle.golay.specs.Calls.{wrong_length}
 use Rattle.golay.proofs.Decided.{answer-once, refuse-once}
 use Rattle.reading.specs.Checks.{most_negative}
@@ -29,20 +29,30 @@ pub tied_refused : (d : Option Codeword) → quick_answer (ok_or d Tied) ≡ dec
 tied_refused (Some c) = refl
 tied_refused None = refl
 
-module _ (xs : List ℤ) (l : length xs ≡ 24) (e : most_negative xs ≡ false) (a : Answer ℕ) where
-  pub quick-answers : Answers (zeros xs) xs a → QuickRule xs a
+module _ (xs : List ℤ) where
+  pub quick-length : (length xs ≡ 24 → ⊥) → QuickRule xs (refused 1)
   unfolding QuickRule
-  quick-answers d = simp (eq-eqb (length xs) 24 l, e) d
+  quick-length l = simp (ne_eqb (length xs) 24 l)
 
-  pub quick-signs : zeros xs ≡ 0 → Decides (sign_word xs) xs a → QuickRule xs a
-  quick-signs z d = quick-answers (subst (λ (n : ℕ). Answers n xs a) (sym z) d)
+  module _ (l : length xs ≡ 24) where
+    pub quick-negative : most_negative xs ≡ true → QuickRule xs (refused 2)
+    unfolding QuickRule
+    quick-negative e = simp (eq-eqb (length xs) 24 l, e)
 
-  pub quick_settles : 0 < zeros xs → Settles xs a → QuickRule xs a
-  quick_settles h s = quick-answers (go (zeros xs) h)
-    where
-      go : (n : ℕ) → 0 < n → Answers n xs a
-      go zero p = let f : ⊥ = omega arith in absurd f
-      go (suc n) p = s
+    module _ (e : most_negative xs ≡ false) (a : Answer ℕ) where
+      pub quick-answers : Answers (zeros xs) xs a → QuickRule xs a
+      unfolding QuickRule
+      quick-answers d = simp (eq-eqb (length xs) 24 l, e) d
+
+      pub quick-signs : zeros xs ≡ 0 → Decides (sign_word xs) xs a → QuickRule xs a
+      quick-signs z d = quick-answers (subst (λ (n : ℕ). Answers n xs a) (sym z) d)
+
+      pub quick_settles : 0 < zeros xs → Settles xs a → QuickRule xs a
+      quick_settles h s = quick-answers (go (zeros xs) h)
+        where
+          go : (n : ℕ) → 0 < n → Answers n xs a
+          go zero p = let f : ⊥ = omega arith in absurd f
+          go (suc n) p = s
 
 -- ---- two allowed answers are equal
 
