@@ -1,6 +1,6 @@
 -- The text of the run fits its buffer.
 -- Assumes nothing.
-use Rattle.std.proofs.Common.{◌≡◌, ◌≤◌, arith, length, rules}
+use Rattle.std.proofs.Common.{◌≡◌, arith, length, rules}
 use Rattle.run.specs.Runs.{Room}
 use Rattle.run.proofs.Decided.{run_fits}
 use Rattle.capture.proofs.LinesTurns.last.Goals as goal

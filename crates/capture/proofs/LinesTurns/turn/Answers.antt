@@ -1,6 +1,6 @@
 -- By the contract of `turn`; and its text fits its buffer.
 -- Assumes nothing.
-use Rattle.std.proofs.Common.{◌≡◌, false, ◌+◌, ◌≤◌, ◌<◌, Option, ℕ, List, length, arith, rules}
+use Rattle.std.proofs.Common.{◌≡◌, false, ◌≤◌, ◌<◌, Option, ℕ, List, length, arith, rules}
 use lib.Seq.{length-take-le}
 use Rattle.records.specs.Records.{new_length}
 use Rattle.run.proofs.Decided.{run_fits, run_near, run_left}
