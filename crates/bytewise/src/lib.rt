@@ -22,7 +22,7 @@ pub fn write_bytes(word: u32, bytes: &mut [u8]) -> Result<(), Refusal>
         return Err(Refusal::WordAbove);
     }
     if is_codeword(word) {
-        bytes.copy_from_slice(&word.to_be_bytes()[1..]);
+        [_, bytes[0], bytes[1], bytes[2]] = word.to_be_bytes();
         return Ok(());
     }
     Err(Refusal::NotCodeword)
