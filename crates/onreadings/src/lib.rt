@@ -1,6 +1,5 @@
 // The calls on readings, as C is handed them: what a call of a room below answers, as a status and outputs.
-// Stays: calls that differ in the call below and the output alone are a function each, and what is told of a reading has an output for each
-// number: the C interface has them so.
+// Stays: calls that differ in the call below alone are a function each, with an output for each number: the C interface has them so.
 #![tactic(auto)]
 
 ghost use Rattle.favours.specs.Calls.{column_figure_rule};
