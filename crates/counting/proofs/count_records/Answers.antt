@@ -1,10 +1,10 @@
 -- By what stands where the walk has come to: a record is counted, or the run ends there or stops.
-use Rattle.std.proofs.Common.{ℕ, Result, Ok, Err, ◌≡◌, refl, ap, ◌∙◌, arith}
+use Rattle.std.proofs.Common.{List, ℤ, ℕ, Result, Ok, Err, ◌≡◌, refl, ap, ◌∙◌, arith}
 use Rattle.records.proofs.Standing.{whole_takes, takes_room}
 use Rattle.std.specs.Result.{result_unwrap_or}
 use Rattle.totals.specs.declared.kinds.Tally.{Tally}
-use Rattle.totals.specs.Totals.{totals}
-use Rattle.tally.specs.Counts.{tally_after}
+use Rattle.totals.specs.Totals.{Totals, totals}
+use Rattle.tally.specs.Counts.{Counts, tally_after}
 use Rattle.contents.proofs.Walks.{place_is, walk-passed, passed-reading, passed-bytes, passed-last}
 use Rattle.counting.proofs.Upto.{up_start, up_record, up_done}
 use Rattle.counting.proofs.count_records.Goals as goal
@@ -28,6 +28,10 @@ kept : (t : Tally) (r : Result Tally ℕ) → result_unwrap_or r t ≡ tally_aft
 kept t (Ok later) = refl
 kept t (Err n) = refl
 
+-- the same count, of an equal reading
+of_reading : {xs ys : List ℤ} {before after : Totals} {status : ℕ} → xs ≡ ys → Counts xs before after status → Counts ys before after status
+of_reading e C = rw e at C
+
 pub loop-record-preserved : goal.loop-record-preserved
 loop-record-preserved c =
     let I = c.loop-record.invariant in
@@ -40,7 +44,7 @@ loop-record-preserved c =
       upto = rw after
           (up_record c.args.last c.args.bytes.now (totals c.args.t c.args.table.now) I.upto
           (walk-passed c.loop-record.walk I.bytes I.last P)
-          (rw reading at c.counted.ensures));
+          (of_reading reading c.counted.ensures));
     }
 
 pub returns : goal.returns

@@ -1,6 +1,8 @@
 -- By what stands where the walk has come to, the run goes on, ends or stops.
-use Rattle.std.proofs.Common.{◌<◌, ◌^◌, sym, ap, ◌∙◌, arith, rules}
+use Rattle.std.proofs.Common.{List, ℕ, ◌≡◌, ◌+◌, ◌<◌, ◌^◌, sym, ap, ◌∙◌, arith, rules}
 use Rattle.sequence.specs.Sequence.{follows_from, previous_after}
+use Rattle.texts.specs.Buffers.{Writes}
+use Rattle.lines.specs.Lines.{stopped_line}
 use Rattle.records.specs.Records.{stopped}
 use Rattle.records.proofs.Standing.{whole_takes, takes_room}
 use Rattle.contents.proofs.Walks.{walk-ended, walk-stopped, walk-passed, passed-number, passed-reading, passed-bytes, passed-last}
@@ -47,6 +49,14 @@ returns-in-None c =
     let stands = walk-ended c.loop-record.walk I.bytes I.last c.in_default.ensures.none (rw stays at c.in-None.ensures) in
     rw stays (up_ended c.args.last c.args.start.previous c.args.start.offset c.args.bytes.now c.args.out.now c.requires I.upto stands)
 
+-- the line of a stop, at an equal place
+stop-line :
+    (n offset : ℕ) {at place to next : ℕ} {before after : List ℕ}
+    → at ≡ place
+    → Writes (stopped_line n (offset + at)) before to after next
+    → Writes (stopped_line n (offset + place)) before to after next
+stop-line n offset e W = rw e at W
+
 pub returns-in-Some-stop : goal.returns-in-Some-stop
 returns-in-Some-stop c =
     let I = c.loop-record.invariant in
@@ -57,4 +67,4 @@ returns-in-Some-stop c =
     (up_stopped c.args.last c.args.start.previous c.args.start.offset c.args.bytes.now c.args.out.now c.requires I.upto
     (stands ∙ ap stopped (sym c.from-number.ensures))
     small
-    (rw stays at c.write_stopped.ensures))
+    (stop-line c.from-number.result c.args.start.offset (λ i. (stays i).at) c.write_stopped.ensures))
