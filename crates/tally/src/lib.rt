@@ -32,16 +32,12 @@ pub fn counted(t: Tally, counts: &mut [u32], reading: &[i32]) -> Result<Tally, u
     }
 }
 
-// Counts a reading, in place. Refuses 1, then 12.
+// Counts a reading, in place: rule 15.11's three statements. Refuses 1, then 12.
 // Stays: the C interface asks for the number, and for 0 where the reading was counted.
 pub fn count(tally: &mut Tally, counts: &mut [u32], reading: &[i32]) -> u8
     ensures { Counts reading.now (totals tally.old counts.old) (totals tally.new counts.new) result }
 {
-    match counted(*tally, counts, reading) {
-        Ok(after) => {
-            *tally = after;
-            0
-        }
-        Err(number) => number,
-    }
+    let answer = counted(*tally, counts, reading);
+    *tally = answer.unwrap_or(*tally);
+    answer.err().unwrap_or(0)
 }
