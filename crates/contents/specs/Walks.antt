@@ -1,5 +1,5 @@
 -- Rules 12.2 and 12.3: a walk over the records of some bytes, one after the other.
-use Rattle.std.specs.Prelude.{◌≡◌, ℕ}
+use Rattle.std.specs.Prelude.{◌≡◌, ℕ, ◌-◌, length, Option, IfSome, IfNone}
 use Rattle.records.specs.Records.{Standing, stopped, whole, stands_at, in_piece, next_from, number_of, reading_of}
 use Rattle.contents.specs.declared.walk.Record.{Record}
 use Rattle.contents.specs.declared.walk.Walk.{Walk}
@@ -22,3 +22,13 @@ NoRecord s = (next : ℕ) → s ≡ whole next → ⊥
 
 abbrev pub NoStop : Standing ℕ → Type 0
 NoStop s = (n : ℕ) → s ≡ stopped n → ⊥
+
+-- one step of a walk: past the record that stands there; or none, where none does, and the walk stays
+pub record Steps (before : Walk) (r : Option Record) (after : Walk) : Type 0 where
+  pub passes : IfSome r (λ s. Passes before after s)
+  pub same : IfNone r (after ≡ before)
+  pub none : IfNone r (NoRecord (place_of before))
+
+-- how many bytes are left to it
+abbrev pub left_of : Walk → ℕ
+left_of w = length w.bytes.now - w.at

@@ -38,6 +38,7 @@ fn reading(bytes: &[u8], from: usize) -> [i32; 24]
 }
 
 // The confidences of the record at a place, which are its last bytes; zeros where no whole record stands there.
+// Stays: what could not fail still cannot: `reading_of` has zeros there.
 pub fn confidences(bytes: &[u8], at: usize) -> [i32; 24]
     ensures { result ≡ reading_of (stands_at bytes.now at) }
 {

@@ -1,8 +1,8 @@
 // The records of some bytes of a capture, one after the other.
-ghost use Rattle.std.specs.Prelude.{◌≡◌, IfSome, IfNone, MatchOption};
+ghost use Rattle.std.specs.Prelude.{◌≡◌, MatchOption};
 ghost use Rattle.golay.specs.Refusals.{number};
 ghost use Rattle.records.specs.Records.{stopped};
-ghost use Rattle.contents.specs.Walks.{place_of, Passes, NoRecord, NoStop};
+ghost use Rattle.contents.specs.Walks.{place_of, NoStop};
 
 use crate::{confidences, number};
 use golay::POSITIONS;
@@ -35,12 +35,29 @@ impl<'a> Walk<'a> {
         Walk { bytes, last, at: 0 }
     }
 
-    // The record at the place, and the walk past it; none where the walk ends or stops, and stays.
-    pub fn next_record(&mut self) -> Option<Record>
-        ensures passes { IfSome result (λ r. Passes self.old self.new r) }
-        ensures same { IfNone result (self.new ≡ self.old) }
-        ensures none { IfNone result (NoRecord (place_of self.old)) }
+    // Why the walk stops at the place, where it does.
+    pub fn stop(&self) -> Option<Refusal>
+        ensures { MatchOption result (NoStop (place_of self.now)) (λ reason. place_of self.now ≡ stopped (number reason)) }
     {
+        match stands_at(self.bytes, self.at, self.last) {
+            Stands::Stopped(reason) => Some(reason),
+            Stands::End | Stands::Record(_) => None,
+        }
+    }
+}
+
+impl<'a> Iterator for Walk<'a> {
+    ghost use Rattle.std.specs.Iterator.{at_most};
+    ghost use Rattle.contents.specs.Walks.{Steps, left_of};
+
+    type Item = Record;
+
+    ghost next_gives = { Steps };
+
+    ghost remaining = { λ w. at_most (left_of w) };
+
+    // The record at the place, and the walk past it; none where the walk ends or stops, and stays.
+    fn next(&mut self) -> Option<Record> {
         match stands_at(self.bytes, self.at, self.last) {
             Stands::Record(next) => {
                 let record = Record {
@@ -51,16 +68,6 @@ impl<'a> Walk<'a> {
                 Some(record)
             }
             Stands::End | Stands::Stopped(_) => None,
-        }
-    }
-
-    // Why the walk stops at the place, where it does.
-    pub fn stop(&self) -> Option<Refusal>
-        ensures { MatchOption result (NoStop (place_of self.now)) (λ reason. place_of self.now ≡ stopped (number reason)) }
-    {
-        match stands_at(self.bytes, self.at, self.last) {
-            Stands::Stopped(reason) => Some(reason),
-            Stands::End | Stands::Record(_) => None,
         }
     }
 }

@@ -17,7 +17,9 @@ pub fn count_records(bytes: &[u8], last: bool, t: Tally, table: &mut [u32]) -> C
 {
     let mut walk = Walk::new(bytes, last);
     let mut tally = t;
-    while let Some(record) = walk.next_record() {
+    // Stays: tried as `for record in walk.by_ref()`, the proof did not close: the library does not say that `next` of a `&mut` keeps the
+    // reference, so nothing is known of the walk after the loop.
+    while let Some(record) = walk.next() {
         tally = tally::counted(tally, table, &record.reading).unwrap_or(tally);
     }
     Counted {
@@ -33,7 +35,7 @@ pub fn count_records(bytes: &[u8], last: bool, t: Tally, table: &mut [u32]) -> C
 pub fn count_turn(held: &mut [u8], count: usize, t: Tally, table: &mut [u32]) -> CountedTurn
     ensures { CountsTurn count held.old held.new (totals t table.old) (totals result.counted.tally table.new) (stop_number result.counted.stop) result.counted.through result.left }
 {
-    if held.len() < count {
+    let Some(bytes) = held.get(..count) else {
         let counted = Counted {
             tally: t,
             stop: None,
@@ -43,8 +45,8 @@ pub fn count_turn(held: &mut [u8], count: usize, t: Tally, table: &mut [u32]) ->
             counted,
             left: count,
         };
-    }
-    let counted = count_records(&held[..count], false, t, table);
+    };
+    let counted = count_records(bytes, false, t, table);
     let left = pieces::keep(held, counted.through, count);
     CountedTurn { counted, left }
 }

@@ -33,6 +33,7 @@ fn rest(bytes: &[u8], at: usize) -> &[u8]
 
 // What stands at a record's start, at a place of a capture or of a piece of it, its last one or not; past the end nothing is left. Stops with
 // 10, 9, then 10.
+// Stays: bytes and at: `stands_at` answers for every place, past the end too.
 pub fn stands_at(bytes: &[u8], at: usize, last: bool) -> Stands
     ensures { stands_answer result ≡ next_from at (in_piece last (stands_at bytes.now at)) }
 {

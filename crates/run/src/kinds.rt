@@ -11,6 +11,7 @@ pub struct Start {
 
 // How many bytes of text the run put into the buffer; whether it stopped: with 9 or 10, or, with nothing put, for want of room; how many bytes
 // it came through, and the previous number then.
+// Stays: a flag and no Refusal: `Runs.ended` speaks of it, and a run without room stops for none.
 #[derive(Clone, Copy)]
 pub struct Outcome {
     pub put: usize,

@@ -26,7 +26,9 @@ fn run_through(bytes: &[u8], last: bool, start: Start, out: &mut [u8]) -> Outcom
     let mut walk = Walk::new(bytes, last);
     let mut previous = start.previous;
     let mut put = 0;
-    while let Some(record) = walk.next_record() {
+    // Stays: tried as `for record in walk.by_ref()`, the proof did not close: the library does not say that `next` of a `&mut` keeps the
+    // reference, so nothing is known of the walk after the loop.
+    while let Some(record) = walk.next() {
         let follows = sequence::follows(previous, record.number);
         put = answers::write_answer(&record.reading, follows, out, put);
         previous = sequence::previous_after(previous, record.number);
@@ -52,6 +54,7 @@ fn run_through(bytes: &[u8], last: bool, start: Start, out: &mut [u8]) -> Outcom
 
 // The run over the last bytes of the input, or over others, which begin after a previous number and at an offset of the capture: the text of
 // them all, at the start of the buffer.
+// Stays: bytes and last apart: `RunRule` speaks of them so.
 pub fn run(bytes: &[u8], last: bool, start: Start, out: &mut [u8]) -> Outcome
     ensures { RunRule last start.previous start.offset bytes.now out.old out.new result }
 {

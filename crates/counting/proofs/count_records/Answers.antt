@@ -19,7 +19,7 @@ loop-record-init c = record {
 pub loop-record-smaller : goal.loop-record-smaller
 loop-record-smaller c =
     let I = c.loop-record.invariant in
-    let stands = walk-passed c.loop-record.walk I.bytes I.last c.in-Some.ensures.passes in
+    let stands = walk-passed c.loop-record.walk I.bytes I.last c.in-Some.ensures.steps.passes in
     let room = takes_room (whole_takes c.args.last c.args.bytes.now c.loop-record.walk.at stands) in
     omega (arith, room.0, room.1)
 
@@ -35,7 +35,7 @@ of_reading e C = rw e at C
 pub loop-record-preserved : goal.loop-record-preserved
 loop-record-preserved c =
     let I = c.loop-record.invariant in
-    let P = c.in-Some.ensures.passes in
+    let P = c.in-Some.ensures.steps.passes in
     let reading = passed-reading c.loop-record.walk I.bytes I.last P in
     let after = c.unwrap_or-tally.ensures ∙ kept c.loop-record.tally c.counted.result in
     record {
@@ -50,9 +50,9 @@ loop-record-preserved c =
 pub returns : goal.returns
 returns c =
     let I = c.loop-record.invariant in
-    let stays = c.in_default.ensures.same in
+    let stays = c.in_default.ensures.steps.same in
     let place = place_is c.loop-record.walk I.bytes I.last in
     rw stays
     (up_done c.args.last c.args.bytes.now (totals c.args.t c.args.table.now) I.upto c.stop.result
-    (rw place at c.in_default.ensures.none)
+    (rw place at c.in_default.ensures.steps.none)
     (rw place at (rw stays at c.stop.ensures)))

@@ -19,14 +19,14 @@ loop-record-init c = record {
 pub loop-record-smaller : goal.loop-record-smaller
 loop-record-smaller c =
     let I = c.loop-record.invariant in
-    let stands = walk-passed c.loop-record.walk I.bytes I.last c.in-Some.ensures.passes in
+    let stands = walk-passed c.loop-record.walk I.bytes I.last c.in-Some.ensures.steps.passes in
     let room = takes_room (whole_takes c.args.last c.args.bytes.now c.loop-record.walk.at stands) in
     omega (arith, room.0, room.1)
 
 pub loop-record-preserved : goal.loop-record-preserved
 loop-record-preserved c =
     let I = c.loop-record.invariant in
-    let P = c.in-Some.ensures.passes in
+    let P = c.in-Some.ensures.steps.passes in
     let previous = c.loop-record.previous in
     let number = passed-number c.loop-record.walk I.bytes I.last P in
     let reading = passed-reading c.loop-record.walk I.bytes I.last P in
@@ -45,8 +45,8 @@ loop-record-preserved c =
 pub returns-in-None : goal.returns-in-None
 returns-in-None c =
     let I = c.loop-record.invariant in
-    let stays = c.in_default.ensures.same in
-    let stands = walk-ended c.loop-record.walk I.bytes I.last c.in_default.ensures.none (rw stays at c.in-None.ensures) in
+    let stays = c.in_default.ensures.steps.same in
+    let stands = walk-ended c.loop-record.walk I.bytes I.last c.in_default.ensures.steps.none (rw stays at c.in-None.ensures) in
     rw stays (up_ended c.args.last c.args.start.previous c.args.start.offset c.args.bytes.now c.args.out.now c.requires I.upto stands)
 
 -- the line of a stop, at an equal place
@@ -60,7 +60,7 @@ stop-line n offset e W = rw e at W
 pub returns-in-Some-stop : goal.returns-in-Some-stop
 returns-in-Some-stop c =
     let I = c.loop-record.invariant in
-    let stays = c.in_default.ensures.same in
+    let stays = c.in_default.ensures.steps.same in
     let stands = walk-stopped c.loop-record.walk I.bytes I.last (rw stays at c.in-Some-stop.ensures) in
     let small : c.from-number.result < 2 ^ 8 = search rules in
     rw stays
