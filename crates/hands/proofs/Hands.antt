@@ -6,8 +6,9 @@ use Prim.Native.Nat.{ℕ, ◌<◌}
 use Rattle.std.proofs.Common.{rules}
 use Rattle.golay.specs.declared.kinds.Refusal.{Refusal}
 use Rattle.golay.specs.Refusals.{number}
-use Rattle.golay.specs.Answers.{Answer, accepted, refused}
-use Rattle.hands.specs.Hands.{HandsBack, HandsBackOne}
+use Rattle.std.specs.Prelude.{Result}
+use Rattle.golay.specs.Answers.{Answer, accepted, refused, answer_of}
+use Rattle.hands.specs.Hands.{returned, HandsBack, HandsBackOne, itself}
 
 -- no refusal has the number 0
 number_above_zero : (reason : Refusal) → 0 < number reason
@@ -50,3 +51,16 @@ pub hands_one_decided :
 hands_one_decided once p q =
     let e = once p.answer q.answer p.allowed q.allowed in
     hands_decided (rw e at p.handed) q.handed
+
+-- ---- the two functions that hand an answer to C
+
+module _ {A : Type 0} (r : Result A Refusal) where
+  pub status-decided : (s other : ℕ) → s ≡ returned (answer_of itself r) → other ≡ returned (answer_of itself r) → s ≡ other
+  status-decided s other p q = p ∙ sym q
+
+  pub hand_back-decided :
+      {before after later : A} {s other : ℕ}
+      → HandsBack (answer_of itself r) itself before after s
+      → HandsBack (answer_of itself r) itself before later other
+      → (s ≡ other) × (after ≡ later)
+  hand_back-decided p q = hands_decided p q
