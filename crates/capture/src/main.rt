@@ -47,7 +47,7 @@ impl Turns for Lines {
             offset,
         };
         let turned = turns::turn(held, count, start, &mut self.text);
-        self.previous = turned.next.previous;
+        self.previous = turned.outcome.previous;
         self.write_text(system, turned.outcome.put).ok()?;
         if turned.outcome.stopped {
             return None;

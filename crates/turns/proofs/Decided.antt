@@ -14,7 +14,7 @@ use Rattle.run.specs.declared.kinds.Outcome.{Outcome}
 use Rattle.run.specs.Runs.{Room}
 use Rattle.run.proofs.Decided.{Decided, yes, no, room-decided, runs_once}
 use Rattle.turns.specs.declared.kinds.Turned.{Turned}
-use Rattle.turns.specs.Turns.{start, TurnRoom, TurnRule}
+use Rattle.turns.specs.Turns.{TurnRoom, TurnRule}
 
 turn-decided : (offset count held buffer : ℕ) → Decided (TurnRoom offset count held buffer)
 turn-decided offset count held buffer = cases (leb count held) refl (room-decided offset count buffer)
@@ -42,5 +42,5 @@ turn-once {offset = offset} {count} {held} {before} {after} {later} {kept} {rest
         let (e, o) = runs_once T.ran U.ran in
         let through = ap (λ (o : Outcome). o.through) o in
         let (k, l) = keeps-once T.keeps (rw (sym through) at U.keeps) in
-        (e, k, turned_same o l (T.next ∙ (λ i. start (o i).previous (offset + (o i).through)) ∙ sym U.next))
+        (e, k, turned_same o l (T.next ∙ ap (λ (n : ℕ). offset + n) through ∙ sym U.next))
     cases (no none) = let (a, b, p) = R.none none in let (c, d, q) = S.none none in (a ∙ sym c, b ∙ sym d, p ∙ sym q)

@@ -16,7 +16,7 @@ use Rattle.run.specs.declared.kinds.Outcome.{Outcome}
 use Rattle.run.specs.Runs.{Room, RunRule}
 use Rattle.run.proofs.Decided.{Decided, yes, no, room-decided, run_near}
 use Rattle.turns.specs.declared.kinds.Turned.{Turned}
-use Rattle.turns.specs.Turns.{start, TurnRoom, TurnRule}
+use Rattle.turns.specs.Turns.{TurnRoom, TurnRule}
 use Rattle.turns.proofs.Decided.{turned_same}
 
 -- no run comes to an offset that 64 bits don't hold
@@ -54,7 +54,7 @@ module _ (held : List ℕ) (count : ℕ) (there : count ≤ length held) where
       {previous : Option ℕ} {offset : ℕ} {before after kept : List ℕ} {r : Turned}
       → RunRule false previous offset (take count held) before after r.outcome
       → Keeps r.outcome.through count held kept r.left
-      → r.next ≡ start r.outcome.previous (offset + r.outcome.through)
+      → r.next ≡ offset + r.outcome.through
       → TurnRule previous offset count held before after kept r
   turn_done {previous} {offset} {before} {after} {kept} {r} R K n = record {
     room = λ T. record { ran = R.room (room_over offset (length before) T); keeps = K; next = n };
@@ -63,5 +63,5 @@ module _ (held : List ℕ) (count : ℕ) (there : count ≤ length held) where
         let nothing = ap (λ (o : Outcome). o.through) outcome in
         let k = (rw nothing at K).there (record { ordered = omega arith; there = there }) in
         let whole : count - 0 ≡ count = omega arith in
-        (same, k.0 ∙ all-kept, turned_same outcome (k.1 ∙ whole) (n ∙ (λ i. start (outcome i).previous (offset + (outcome i).through)) ∙ ap (start previous) (add-zero offset)));
+        (same, k.0 ∙ all-kept, turned_same outcome (k.1 ∙ whole) (n ∙ ap (λ (t : ℕ). offset + t) nothing ∙ add-zero offset));
   }
