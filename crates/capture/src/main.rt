@@ -1,7 +1,7 @@
 // Decodes a capture, from the file that the argument names or from standard input: the header, a line for each record, the line where it stopped.
 #![tactic(auto)]
 
-ghost use Rattle.std.specs.Prelude.{◌≤◌};
+ghost use Rattle.std.specs.Prelude.{◌≡◌, ◌≤◌};
 ghost use Rattle.outside.specs.Reader.{Stays};
 
 use lines::LONGEST;
@@ -16,6 +16,7 @@ use std::process::ExitCode;
 const TEXT: usize = HELD + LONGEST;
 
 // The previous number of a capture, and room for the text of all bytes that are held.
+// Stays: arrays and the length that was put: no memory from a heap, and `Writes` answers the place.
 #[derive(Drop)]
 struct Lines {
     previous: Option<u16>,
@@ -23,6 +24,16 @@ struct Lines {
 }
 
 impl Lines {
+    // What a run over bytes from an offset on begins with.
+    fn start(&self, offset: u64) -> Start
+        ensures { result.offset ≡ offset }
+    {
+        Start {
+            previous: self.previous,
+            offset,
+        }
+    }
+
     // The first bytes of the text, to standard output.
     fn write_text(&self, system: &mut System, put: usize) -> Result<(), Unwritten>
         requires { put ≤ 65575 }
@@ -35,18 +46,8 @@ impl Lines {
 // Writes the text of the whole records that are there.
 impl Turns for Lines {
     // One whose text can't be written is the last, as one that stopped.
-    fn turn(
-        &mut self,
-        system: &mut System,
-        held: &mut [u8],
-        count: usize,
-        offset: u64,
-    ) -> Option<usize> {
-        let start = Start {
-            previous: self.previous,
-            offset,
-        };
-        let turned = turns::turn(held, count, start, &mut self.text);
+    fn turn(&mut self, system: &mut System, held: &mut [u8], offset: u64) -> Option<usize> {
+        let turned = turns::turn(held, held.len(), self.start(offset), &mut self.text);
         self.previous = turned.outcome.previous;
         self.write_text(system, turned.outcome.put).ok()?;
         if turned.outcome.stopped {
@@ -56,11 +57,7 @@ impl Turns for Lines {
     }
 
     fn last(&mut self, system: &mut System, left: &[u8], offset: u64) {
-        let start = Start {
-            previous: self.previous,
-            offset,
-        };
-        let outcome = run::run(left, true, start, &mut self.text);
+        let outcome = run::run(left, true, self.start(offset), &mut self.text);
         let _ = self.write_text(system, outcome.put);
     }
 }
@@ -92,6 +89,7 @@ fn decode(system: &mut System, input: &mut Source, name: &[u8]) {
         text: [0; TEXT],
     };
     if let Err(why) = read_capture(system, input, &mut lines) {
+        // The failure is to stand on a line without progress.
         system.clear_progress();
         system.fail(name, why);
     }

@@ -14,20 +14,13 @@ const FARTHEST: u64 = 0xFFFF_FFFF_FFFE_0000;
 
 // What is made of a capture's bytes, turn by turn.
 pub trait Turns {
-    // A turn over the first bytes that are held, which begin at an offset of the capture and which more may follow. How many are left then, in front;
+    // A turn over the bytes that are held, which begin at an offset of the capture and which more may follow. How many are left then, in front;
     // none is the last turn.
-    fn turn(
-        &mut self,
-        system: &mut System,
-        held: &mut [u8],
-        count: usize,
-        offset: u64,
-    ) -> Option<usize>
-        requires held_len { length held.old ≡ 65536 }
-        requires count_in_bounds { count ≤ 65536 }
-        requires count_bound { offset + count < 2 ^ 64 }
+    fn turn(&mut self, system: &mut System, held: &mut [u8], offset: u64) -> Option<usize>
+        requires held_bound { length held.old ≤ 65536 }
+        requires offset_bound { offset + length held.old < 2 ^ 64 }
         ensures stays { Stays system.old system.new }
-        ensures left_of_all { IfSome result (λ left. left ≤ count) }
+        ensures left_of_all { IfSome result (λ left. left ≤ length held.old) }
         ensures left_short { IfSome result (λ left. left < new_length) };
 
     // What is left at the end of the input, from an offset on.
@@ -48,6 +41,7 @@ pub fn read_capture<R: Read, T: Turns>(
     let mut held = [0u8; HELD];
     let mut count: usize = 0;
     let mut offset: u64 = 0;
+    // Stays: it counts no index: it ends where the input does, or at an offset that none has.
     while offset < FARTHEST {
         let n = input.read(&mut held[count..])?;
         if n == 0 {
@@ -55,7 +49,7 @@ pub fn read_capture<R: Read, T: Turns>(
             return Ok(());
         }
         let all = count + n;
-        let Some(left) = turns.turn(system, &mut held, all, offset) else {
+        let Some(left) = turns.turn(system, &mut held[..all], offset) else {
             return Ok(());
         };
         let next = offset + (all - left) as u64;

@@ -78,6 +78,7 @@ impl System {
     }
 
     // Where the reader is gone, that stays so.
+    // Stays: the clause stands in each of these contracts, since it is of what was before and what is after; a ghost field or invariant speaks of one value.
     fn note(&mut self, written: io::Result<()>)
         ensures stays { Stays self.old self.new }
         ensures gone { IfErr written (λ why. error_kind why ≡ ErrorKind.BrokenPipe → self.new.unread ≡ true) }
@@ -174,10 +175,8 @@ impl System {
 
     // A path is text in UTF-8, and no file of another name can be opened.
     fn open_path(&self, path: &[u8]) -> io::Result<File> {
-        match str::from_utf8(path) {
-            Ok(path) => File::open(&self.rt, path),
-            Err(_) => Err(Error::from_raw_os_error(EILSEQ)),
-        }
+        let path = str::from_utf8(path).map_err(|_| Error::from_raw_os_error(EILSEQ))?;
+        File::open(&self.rt, path)
     }
 
     fn standard_input<'a>(&self, name: &'a mut [u8]) -> Input<'a>

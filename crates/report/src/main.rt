@@ -35,7 +35,7 @@ struct Counts {
 
 // That a capture could not be read, which is told.
 #[derive(Clone, Copy, Debug)]
-struct Unread;
+struct NotRead;
 
 impl Counts {
     // The tally after bytes from an offset on, and where they stopped.
@@ -50,14 +50,8 @@ impl Counts {
 
 // Counts the whole records that are there.
 impl Turns for Counts {
-    fn turn(
-        &mut self,
-        system: &mut System,
-        held: &mut [u8],
-        count: usize,
-        offset: u64,
-    ) -> Option<usize> {
-        let turn = counting::count_turn(held, count, self.tally, &mut self.table);
+    fn turn(&mut self, system: &mut System, held: &mut [u8], offset: u64) -> Option<usize> {
+        let turn = counting::count_turn(held, held.len(), self.tally, &mut self.table);
         self.note(turn.counted, offset);
         match turn.counted.stop {
             None => Some(turn.left),
@@ -82,11 +76,9 @@ fn tell_stop(system: &mut System, name: &[u8], stop: Stop) {
 }
 
 // Counts the capture that an argument names, and tells what went wrong with it.
-fn count_argument(system: &mut System, place: usize, counts: &mut Counts) -> Result<(), Unread> {
+fn count_argument(system: &mut System, place: usize, counts: &mut Counts) -> Result<(), NotRead> {
     let mut name = [0u8; 4096];
-    let Some(Input { mut source, name }) = system.open_argument(place, &mut name) else {
-        return Err(Unread);
-    };
+    let Input { mut source, name } = system.open_argument(place, &mut name).ok_or(NotRead)?;
     counts.stop = None;
     let read = read_capture(system, &mut source, counts);
     system.clear_progress();
@@ -97,11 +89,11 @@ fn count_argument(system: &mut System, place: usize, counts: &mut Counts) -> Res
         tell_stop(system, name, stop);
     }
     close(source);
-    read.map_err(|_| Unread)
+    read.map_err(|_| NotRead)
 }
 
 // All captures in their order: standard input where no argument names one.
-fn count_all(system: &mut System, counts: &mut Counts) -> Result<(), Unread> {
+fn count_all(system: &mut System, counts: &mut Counts) -> Result<(), NotRead> {
     let first = system.first_argument();
     let mut all = count_argument(system, first, counts);
     for place in first + 1..usize::MAX {
