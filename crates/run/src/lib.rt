@@ -33,22 +33,16 @@ fn run_through(bytes: &[u8], last: bool, start: Start, out: &mut [u8]) -> Outcom
         put = answers::write_answer(&record.reading, follows, out, put);
         previous = sequence::previous_after(previous, record.number);
     }
-    match walk.stop() {
-        None => Outcome {
-            put,
-            stopped: false,
-            through: walk.at,
-            previous,
-        },
-        Some(reason) => {
-            let number = u8::from(reason);
-            Outcome {
-                put: lines::write_stopped(number, start.offset + walk.at as u64, out, put),
-                stopped: true,
-                through: walk.at,
-                previous,
-            }
-        }
+    let stop = walk.stop();
+    if let Some(reason) = stop {
+        let offset = start.offset + walk.at as u64;
+        put = lines::write_stopped(u8::from(reason), offset, out, put);
+    }
+    Outcome {
+        put,
+        stopped: stop.is_some(),
+        through: walk.at,
+        previous,
     }
 }
 

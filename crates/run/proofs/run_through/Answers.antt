@@ -1,5 +1,5 @@
 -- By what stands where the walk has come to, the run goes on, ends or stops.
-use Rattle.std.proofs.Common.{List, ℕ, ◌≡◌, ◌+◌, ◌<◌, ◌^◌, sym, ap, ◌∙◌, arith, rules}
+use Rattle.std.proofs.Common.{true, false, List, ℕ, ◌≡◌, ◌+◌, ◌<◌, ◌^◌, sym, ap, ◌∙◌, arith, rules}
 use Rattle.sequence.specs.Sequence.{follows_from, previous_after}
 use Rattle.texts.specs.Buffers.{Writes}
 use Rattle.lines.specs.Lines.{stopped_line}
@@ -7,6 +7,7 @@ use Rattle.records.specs.Records.{stopped}
 use Rattle.records.proofs.Standing.{whole_takes, takes_room}
 use Rattle.contents.proofs.Walks.{walk-ended, walk-stopped, walk-passed, passed-number, passed-reading, passed-bytes, passed-last}
 use Rattle.run.proofs.Upto.{up_start, up_record, up_ended, up_stopped}
+use Rattle.run.proofs.run_through.Goals.{in-Some-stop, in_default-stop}
 use Rattle.run.proofs.run_through.Goals as goal
 
 pub loop-record-init : goal.loop-record-init
@@ -42,13 +43,6 @@ loop-record-preserved c =
           (rw reading at (rw follows at c.write_answer-put.ensures)));
     }
 
-pub returns-in-None : goal.returns-in-None
-returns-in-None c =
-    let I = c.loop-record.invariant in
-    let stays = c.in_default.ensures.steps.same in
-    let stands = walk-ended c.loop-record.walk I.bytes I.last c.in_default.ensures.steps.none (rw stays at c.in-None.ensures) in
-    rw stays (up_ended c.args.last c.args.start.previous c.args.start.offset c.args.bytes.now c.args.out.now c.requires I.upto stands)
-
 -- the line of a stop, at an equal place
 stop-line :
     (n offset : ℕ) {at place to next : ℕ} {before after : List ℕ}
@@ -57,14 +51,23 @@ stop-line :
     → Writes (stopped_line n (offset + place)) before to after next
 stop-line n offset e W = rw e at W
 
-pub returns-in-Some-stop : goal.returns-in-Some-stop
-returns-in-Some-stop c =
+pub returns : goal.returns
+returns c =
     let I = c.loop-record.invariant in
     let stays = c.in_default.ensures.steps.same in
-    let stands = walk-stopped c.loop-record.walk I.bytes I.last (rw stays at c.in-Some-stop.ensures) in
-    let small : c.from-number.result < 2 ^ 8 = search rules in
-    rw stays
-    (up_stopped c.args.last c.args.start.previous c.args.start.offset c.args.bytes.now c.args.out.now c.requires I.upto
-    (stands ∙ ap stopped (sym c.from-number.ensures))
-    small
-    (stop-line c.from-number.result c.args.start.offset (λ i. (stays i).at) c.write_stopped.ensures))
+    elim c.match-stop.branch [
+      in-Some-stop w ↦
+        let stands = walk-stopped c.loop-record.walk I.bytes I.last (rw stays at w.in-Some-stop.ensures) in
+        let small : w.from.result < 2 ^ 8 = search rules in
+        let some : c.is_some.result ≡ true = search rules in
+        rw (stays, w.out-is, w.put-is, some)
+        (up_stopped c.args.last c.args.start.previous c.args.start.offset c.args.bytes.now c.args.out.now c.requires I.upto
+        (stands ∙ ap stopped (sym w.from.ensures))
+        small
+        (stop-line w.from.result c.args.start.offset (λ i. (stays i).at) w.write_stopped-put.ensures))
+    | in_default-stop w ↦
+        let none : c.is_some.result ≡ false = search rules in
+        let stands = walk-ended c.loop-record.walk I.bytes I.last c.in_default.ensures.steps.none (rw stays at w.in_default-stop.ensures) in
+        rw (stays, w.out-is, w.put-is, none)
+        (up_ended c.args.last c.args.start.previous c.args.start.offset c.args.bytes.now c.args.out.now c.requires I.upto stands)
+    ]
