@@ -8,8 +8,9 @@ use native.Mathlib.Omega.{arith}
 use lib.Dec.{leb, eqb, lit≤}
 use lib.ListN.{length, drop}
 use lib.Seq.{length-take-le}
-use borrow.Author.Tests.{leb-true, leb-false, ne_eqb}
+use borrow.Author.Tests.{ne_eqb}
 use Rattle.std.specs.Prelude.{Option, None}
+use Rattle.std.proofs.Math.Decide.{dec_le}
 use Rattle.decoding.proofs.Decoding.{a_decoder}
 use Rattle.sequence.specs.Sequence.{previous_after}
 use Rattle.records.specs.Records.{is_old_mark, is_new_mark, Record, old_length, new_length, record_length, Standing, ended, stopped, whole, standing, in_piece}
@@ -37,19 +38,17 @@ pub turn-once :
     → CountsTurn count held kept before after stop through left
     → CountsTurn count held rest before later other far remaining
     → (after ≡ later) × (kept ≡ rest) × (stop ≡ other) × (through ≡ far) × (left ≡ remaining)
-turn-once {count} {held} {kept} {rest} {before} {after} {later} {stop} {other} {through} {far} {left} {remaining} T U = cases (leb count (length held)) refl
+turn-once {count} {held} {kept} {rest} {before} {after} {later} {stop} {other} {through} {far} {left} {remaining} T U = cases (dec_le count (length held))
   where
-    cases : (b : Bool) → leb count (length held) ≡ b
+    cases : Dec (count ≤ length held)
         → (after ≡ later) × (kept ≡ rest) × (stop ≡ other) × (through ≡ far) × (left ≡ remaining)
-    cases true e =
-        let h = leb-true count (length held) e in
+    cases (yes h) =
         let (R, K) = T.there h in
         let (S, L) = U.there h in
         let (a, s, t) = counts_once R S in
         let (k, l) = keeps-once K (rw (sym t) at L) in
         (a, k, s, t, l)
-    cases false e =
-        let m : count ≤ length held → ⊥ = λ h. omega (arith, leb-false count (length held) e, h) in
+    cases (no m) =
         let (a, b, c, d, f) = T.missing m in
         let (p, q, r, s, t) = U.missing m in
         (a ∙ sym p, b ∙ sym q, c ∙ sym r, d ∙ sym s, f ∙ sym t)

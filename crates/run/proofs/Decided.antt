@@ -1,15 +1,14 @@
 -- Whether there is room can be told; so two outcomes that the promise of a run allows are equal, with the buffer that they leave.
 -- Assumes nothing.
-use mathlib.Core.Path.{◌≡◌, refl, sym, ap, ◌∙◌}
+use mathlib.Core.Path.{◌≡◌, sym, ap, ◌∙◌}
 use mathlib.Core.Bool.{Bool, true, false}
 use mathlib.Core.List.{List}
 use Prim.Native.Nat.{ℕ, zero, suc, ◌+◌, ◌≤◌, ◌<◌, ◌^◌}
 use native.Mathlib.Omega.{arith}
-use lib.Dec.{leb, ltb}
 use lib.IntN.{ℤ}
 use lib.ListN.{length, drop, length-append}
-use borrow.Author.Tests.{leb-true, leb-false, ltb-true, ltb-false}
 use Rattle.std.specs.Prelude.{Option}
+use Rattle.std.proofs.Math.Decide.{dec_le, dec_lt}
 use Rattle.golay.specs.Answers.{Answer}
 use Rattle.lines.specs.Lines.{longest}
 use Rattle.sequence.specs.Sequence.{previous_after}
@@ -21,17 +20,13 @@ use Rattle.run.specs.declared.kinds.Outcome.{Outcome}
 use Rattle.run.specs.Output.{lines}
 use Rattle.run.specs.Runs.{Room, Runs, unrun, RunRule}
 
-pub data Decided (P : Type 0) : Type 0 where
-  yes : P → Decided P
-  no : (P → ⊥) → Decided P
-
-pub room-decided : (offset n buffer : ℕ) → Decided (Room offset n buffer)
-room-decided offset n buffer = cases (leb (n + longest) buffer) (ltb (offset + n) (2 ^ 64)) refl refl
+pub room-decided : (offset n buffer : ℕ) → Dec (Room offset n buffer)
+room-decided offset n buffer = cases (dec_le (n + longest) buffer) (dec_lt (offset + n) (2 ^ 64))
   where
-    cases : (a b : Bool) → leb (n + longest) buffer ≡ a → ltb (offset + n) (2 ^ 64) ≡ b → Decided (Room offset n buffer)
-    cases true true e f = yes (record { lines = leb-true (n + longest) buffer e; offsets = ltb-true (offset + n) (2 ^ 64) f })
-    cases true false e f = no (λ R. omega (arith, ltb-false (offset + n) (2 ^ 64) f, R.offsets))
-    cases false b e f = no (λ R. omega (arith, leb-false (n + longest) buffer e, R.lines))
+    cases : Dec (n + longest ≤ buffer) → Dec (offset + n < 2 ^ 64) → Dec (Room offset n buffer)
+    cases (yes l) (yes o) = yes (record { lines = l; offsets = o })
+    cases (yes l) (no o) = no (λ R. o R.offsets)
+    cases (no l) o = no (λ R. l R.lines)
 
 -- an outcome by its fields
 outcome-same : {r s : Outcome} → r.put ≡ s.put → r.stopped ≡ s.stopped → r.through ≡ s.through → r.previous ≡ s.previous → r ≡ s
@@ -59,7 +54,7 @@ pub run-once :
     → (after ≡ later) × (r ≡ s)
 run-once {offset = offset} {bytes} {before} {after} {later} {r} {s} R S = cases (room-decided offset (length bytes) (length before))
   where
-    cases : Decided (Room offset (length bytes) (length before)) → (after ≡ later) × (r ≡ s)
+    cases : Dec (Room offset (length bytes) (length before)) → (after ≡ later) × (r ≡ s)
     cases (yes room) = runs_once (R.room room) (S.room room)
     cases (no none) = let (a, p) = R.none none in let (b, q) = S.none none in (a ∙ sym b, p ∙ sym q)
 

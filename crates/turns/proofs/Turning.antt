@@ -14,7 +14,7 @@ use Rattle.texts.specs.Buffers.{put}
 use Rattle.pieces.specs.Pieces.{Keeps}
 use Rattle.run.specs.declared.kinds.Outcome.{Outcome}
 use Rattle.run.specs.Runs.{Room, RunRule}
-use Rattle.run.proofs.Decided.{Decided, yes, no, room-decided, run_near}
+use Rattle.run.proofs.Decided.{room-decided, run_near}
 use Rattle.turns.specs.declared.kinds.Turned.{Turned}
 use Rattle.turns.specs.Turns.{TurnRoom, TurnRule}
 use Rattle.turns.proofs.Decided.{turned_same}
@@ -27,7 +27,7 @@ pub run-far :
     → offset + r.through < 2 ^ 64
 run-far {offset = offset} {bytes} {before} {r = r} R h = cases (room-decided offset (length bytes) (length before))
   where
-    cases : Decided (Room offset (length bytes) (length before)) → offset + r.through < 2 ^ 64
+    cases : Dec (Room offset (length bytes) (length before)) → offset + r.through < 2 ^ 64
     cases (yes room) = omega (arith, run_near (R.room room), room.offsets)
     cases (no none) = let e : r.through ≡ 0 = ap (λ (o : Outcome). o.through) (R.none none).1 in omega (arith, e)
 
