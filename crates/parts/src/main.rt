@@ -3,6 +3,7 @@
 
 use golay::POSITIONS;
 use records::OLD_RECORD;
+use std::array;
 use std::io::Read;
 
 // A buffer's readings, each a record.
@@ -20,11 +21,7 @@ const MOST_CASES: u32 = 1_000_000;
 
 // The readings of the first records.
 fn readings(records: &[u8]) -> [[i32; POSITIONS]; READINGS] {
-    let mut made = [[0i32; POSITIONS]; READINGS];
-    for (i, reading) in made.iter_mut().enumerate() {
-        *reading = contents::confidences(records, OLD_RECORD * i);
-    }
-    made
+    array::from_fn(|i| contents::confidences(records, OLD_RECORD * i))
 }
 
 fn print_part(rt: &impl Print, part: &[i32]) {
