@@ -15,6 +15,9 @@ use std::array;
 // The 24 confidences.
 const READING: usize = 96;
 
+// Stays: bytes and from: tried as the bytes from there on alone (`&bytes[4 * i..]`), the proofs of `reading`, `confidences` and `number` did
+// not close.
+
 // The confidence that four bytes from a place on hold.
 #[tactic(auto, using(crate::proofs::Readings::confidence_from))]
 fn confidence(bytes: &[u8], from: usize) -> i32

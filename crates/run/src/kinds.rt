@@ -3,7 +3,7 @@ ghost use Rattle.std.specs.Prelude.{◌≡◌};
 ghost use Rattle.run.specs.Runs as runs;
 
 // The number before the first byte, where there is one, and the offset of that byte in the capture.
-#[derive(Clone, Copy, Default)]
+#[derive(Clone, Copy)]
 pub struct Start {
     pub previous: Option<u16>,
     pub offset: u64,
