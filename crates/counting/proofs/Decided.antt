@@ -9,7 +9,10 @@ use lib.Dec.{leb, eqb, lit≤}
 use lib.ListN.{length, drop}
 use lib.Seq.{length-take-le}
 use borrow.Author.Tests.{ne_eqb}
-use Rattle.std.specs.Prelude.{Option, None}
+use Rattle.std.proofs.Common.{rules}
+use Rattle.std.specs.Prelude.{Option, None, Some}
+use Rattle.golay.specs.declared.kinds.Refusal.{Refusal}
+use Rattle.golay.proofs.Decided.{reason}
 use Rattle.std.proofs.Math.Decide.{dec_le}
 use Rattle.decoding.proofs.Decoding.{a_decoder}
 use Rattle.sequence.specs.Sequence.{previous_after}
@@ -20,7 +23,7 @@ use Rattle.records.proofs.Running.{end_near, left_short}
 use Rattle.pieces.proofs.Pieces.{keeps-once}
 use Rattle.totals.specs.Totals.{Totals}
 use Rattle.counting.specs.Reports.{Came, came}
-use Rattle.counting.specs.Counting.{CountsRun, CountsTurn}
+use Rattle.counting.specs.Counting.{stop_number, CountsRun, CountsTurn}
 
 pub counts_once :
     {last : Bool} {bytes : List ℕ} {before after later : Totals} {stop other through far : ℕ}
@@ -32,6 +35,18 @@ counts_once R S =
     let e = R.ended None 0 ∙ sym (S.ended None 0) in
     let through = ap (λ (c : Came). c.offset) e in
     (R.counted decode D None 0 ∙ sym (S.counted decode D None 0), ap (λ (c : Came). c.stop) e, omega (arith, through))
+
+-- a stop's number tells its reason
+abbrev stop_of : ℕ → Option Refusal
+stop_of zero = None
+stop_of (suc n) = Some (reason (suc n))
+
+stop_back : (r : Option Refusal) → stop_of (stop_number r) ≡ r
+stop_back None = refl
+stop_back (Some r) = search rules
+
+pub stop-once : (r s : Option Refusal) → stop_number r ≡ stop_number s → r ≡ s
+stop-once r s e = sym (stop_back r) ∙ ap stop_of e ∙ stop_back s
 
 pub turn-once :
     {count : ℕ} {held kept rest : List ℕ} {before after later : Totals} {stop other through far left remaining : ℕ}
