@@ -32,19 +32,19 @@ def closed(text, start, pair="{}"):
 def functions():
     """Each function: its file, name, parameters, clauses and body."""
     for path, text in sources():
-        for found in re.finditer(r"\bfn (\w+)(<[^(]*>)?\(", text):
+        for found in re.finditer(r"\bfn (\w+)(<(?:[^()]|\([^()]*\))*?>)?\(", text):
             opened = found.end() - 1
             end = closed(text, opened, "()")
             parameters = [re.sub(r"\s+", " ", p).strip() for p in re.split(r",(?![^<\[(]*[>\])])", text[opened + 1 : end - 1])]
             clauses, at = [], end
             while True:
-                more = re.compile(r"[^{;]*?\b(requires|ensures)\b[^{]*").match(text, at)
+                more = re.compile(r"(?:[^{;\[]|\[[^\]]*\])*?\b(requires|ensures)\b[^{]*").match(text, at)
                 if not more or text[more.end() : more.end() + 1] != "{":
                     break
                 at = closed(text, more.end())
                 clauses.append(re.sub(r"\s+", " ", text[more.end() + 1 : at - 1]).strip())
             body = text.find("{", at)
-            if ";" in text[at:body] and not clauses:
+            if ";" in re.sub(r"\[[^\]]*\]", "", text[at:body]) and not clauses:
                 continue
             yield path, found.group(1), [p for p in parameters if p], clauses, text[body : closed(text, body)]
 

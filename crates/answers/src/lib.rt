@@ -1,4 +1,5 @@
 // The line of a record. What it tells of the reading is what the soft decoder answers.
+// Stays: out and at are two parameters, as in `texts`.
 #![tactic(auto)]
 
 ghost use Rattle.answers.specs.Telling.{Tells};

@@ -53,6 +53,7 @@ pub fn characters(k: usize) -> [usize; 6]
 }
 
 // The sum of one column for the parity and the character that a class has there, by the class's lowest seven bits; 0 past the last column.
+// Stays: what could not fail still cannot: `column_at` has the 0.
 pub fn class_column(reading: &[i32], class: u32, i: usize) -> i64
     ensures { result ≡ column_at reading.now class i }
 {

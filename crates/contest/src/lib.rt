@@ -4,6 +4,7 @@
 ghost use Rattle.std.specs.Prelude.{◌≡◌, List, [], ◌∷◌};
 ghost use Rattle.contest.specs.Kept.{Seen, seen, Kept, taken};
 
+// Stays: the least i64 for a second that there is not, and no Option: `Kept` and `taken` say so of every keeper.
 #[derive(Clone, Copy)]
 pub struct Keeper {
     pub best: i64,

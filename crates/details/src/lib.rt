@@ -11,8 +11,12 @@ use columns::{ColumnSums, characters};
 use contest::Keeper;
 use signed::{bit, smaller};
 
+// Above all sizes, and above what six of them come to.
+const FAR: u64 = 1 << 40;
+
 // What columns come to, however many: the sizes of their sums added, the least two of them, the signs and their parity, and the top bits of
 // the other parity that lose the least, which go against the sign of the least size alone.
+// Stays: a size above all for one that is not there, and no Option: `Held` has it so.
 #[derive(Drop)]
 struct Sizes {
     total: u64,
@@ -30,8 +34,8 @@ impl Sizes {
     {
         Sizes {
             total: 0,
-            least: 1_099_511_627_776,
-            next: 1_099_511_627_776,
+            least: FAR,
+            next: FAR,
             odd: 0,
             signs: 0,
             other: 0,

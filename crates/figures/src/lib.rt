@@ -35,21 +35,15 @@ const LAST: [u8; 128] = [
     52, 49, 62, 59, 63, 58, 53, 48,
 ];
 
-// Class k's place in each.
-fn middle(k: usize) -> usize
+// Class k's places, in the one and the other.
+// Stays: `k < classes` in three contracts, here and in `details`: a type of its own would be made anew for each turn's k, and be no plainer.
+fn places(k: usize) -> (usize, usize)
     requires { k < classes }
-    ensures is { result ≡ middle_of k }
-    ensures small { result < 64 }
+    ensures middle { result.0 ≡ middle_of k }
+    ensures last { result.1 ≡ last_of k }
+    ensures small { (result.0 < 64) × (result.1 < 64) }
 {
-    MIDDLE[k] as usize
-}
-
-fn last(k: usize) -> usize
-    requires { k < classes }
-    ensures is { result ≡ last_of k }
-    ensures small { result < 64 }
-{
-    LAST[k] as usize
+    (MIDDLE[k] as usize, LAST[k] as usize)
 }
 
 fn coded(v: i64) -> u64
@@ -95,8 +89,7 @@ impl OtherPairs {
         ensures value { result ≡ figure_from self.now.sums self.now.leasts first.sum first.least k }
         ensures within { Within far result }
     {
-        let i = middle(k);
-        let j = last(k);
+        let (i, j) = places(k);
         let s = first.sum + self.sums[i] + self.sums[j];
         let l = smaller(self.leasts[j], smaller(self.leasts[i], first.least));
         (s / 8) as i64 - (2 * (l / 8) * (s % 2)) as i64

@@ -8,6 +8,7 @@ ghost use Rattle.hands.specs.Hands.{returned, HandsBack, itself};
 use golay::kinds::Refusal;
 
 // A call's status: 0 for an answer, else the refusal's number.
+// Stays: a number and no Result, as the C interface has it (rule 11.7).
 pub fn status<T: Copy>(answer: Result<T, Refusal>) -> u8
     ensures { result ≡ returned (answer_of itself answer) }
 {

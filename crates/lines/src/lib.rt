@@ -1,5 +1,6 @@
 // The text of each line of output, put into a lent buffer at a place. A line that does not fit is not begun: no byte of the buffer
 // changes, and the answer is the place itself.
+// Stays: out and at are two parameters, as in `texts`.
 #![tactic(auto)]
 
 ghost use Rattle.std.specs.Prelude.{◌≡◌, ◌≤◌, length};

@@ -6,6 +6,7 @@ ghost use Rattle.code.specs.Code.{syndromes};
 ghost use Rattle.patterns.specs.Patterns.{IsPattern};
 ghost use Rattle.patterns.specs.Positions.{Stored, entry_at};
 
+// Stays: two arrays; one of pairs would take 16 bytes for each ten, and rule 15.8 allows 12,288 for all.
 mod entries;
 
 // Entry k of the four that two numbers hold.

@@ -15,7 +15,7 @@ fn all_give(codeword: Codeword, least: u32, places: u32, reading: &[i32]) -> boo
     ensures { AllGive codeword.0 (whole positions reading.now) result }
 {
     let mut ones = places;
-    // Stays: the loop counts no index; each turn's subset is made from the last one, and no range or slice holds them.
+    // Stays: the loop counts no index: each turn's subset is made from the last one, so no range has them, and `iter::successors` tells of no end.
     while ones > 0 {
         ones = (ones - 1) & places;
         if !decision::gives(codeword, least + ones, reading) {
@@ -47,6 +47,7 @@ fn fillings(reading: &[i32]) -> Result<Codeword, Refusal>
 pub fn quick(reading: &[i32]) -> Result<Codeword, Refusal>
     ensures { QuickRule reading.now (quick_answer result) }
 {
+    // Stays: not `reading::check`, which would ask each reading twice: `signs::clear` asks for zeros and for the most negative number at once.
     if reading.len() != POSITIONS {
         return Err(Refusal::WrongLength);
     }

@@ -1,4 +1,5 @@
 // The sheet of a link report: a tally and its table as text, put into a lent buffer. Where there is no room nothing is written.
+// Stays: out and at are two parameters, as in `texts`.
 #![tactic(auto)]
 
 ghost use Rattle.std.specs.Prelude.{◌+◌, ◌*◌, ◌≤◌, length};

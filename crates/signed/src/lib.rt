@@ -1,4 +1,6 @@
 // Whole numbers with a sign: what a decoder asks of one. No function refuses a number.
+// Stays: what `size`, `negative`, `bit` and `smaller` do is std's; they are public, and docs/PROMISES.md has their promises. `widened` cannot fail: past
+// the end there is 0.
 #![tactic(auto)]
 
 ghost use Rattle.std.specs.Prelude.{◌≡◌, cond, min, pos, nat_abs, get_or};

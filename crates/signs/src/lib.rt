@@ -16,6 +16,7 @@ use golay::POSITIONS;
 const LAST: usize = POSITIONS - 1;
 
 // The word with a one at each confidence for which a test holds, position 1 first.
+// Stays: what could not fail still cannot: of a slice that is no reading `whole` makes one without confidences, here and in `cost`.
 fn marked<F: Fn(i32) -> bool>(reading: &[i32], test: F) -> u32
     requires { F.IsAlwaysCallable test }
     ensures value { (t : ℤ → Bool) → Computes (F.post test) t → result ≡ marked t (whole positions reading.now) }
@@ -32,6 +33,7 @@ fn marked<F: Fn(i32) -> bool>(reading: &[i32], test: F) -> u32
 }
 
 // The signs as a word, position 1 first.
+// Stays: `result < words` here, of the zeros and of `marked`: a type for words would be no plainer, as each caller takes the number out of it.
 pub fn sign_word(reading: &[i32]) -> u32
     ensures { (result ≡ sign_word (whole positions reading.now)) × (result < words) }
 {

@@ -1,4 +1,5 @@
 // What the line of a record ends with, put into a lent buffer at a place, whole or not at all.
+// Stays: out and at are two parameters, as in `texts`.
 #![tactic(auto)]
 
 ghost use Rattle.std.specs.Prelude.{◌≤◌, length};

@@ -48,6 +48,8 @@ pub fn write_text(text: &[u8], out: &mut [u8], at: usize) -> usize
 }
 
 // A word, a number and what the line ends with.
+// Stays: as one function over an array of words and numbers this and the next are no plainer: its room would be a sum in a loop, and each caller
+// would make an array.
 // Stays: `write!` prints a line piece by piece, and one that does not fit is not begun (`Writes`).
 pub fn write_one(word: &[u8], n: u64, end: &[u8], out: &mut [u8], at: usize) -> usize
     ensures { Writes (line_of word.now n end.now) out.old at out.new result }

@@ -17,21 +17,21 @@ returns-clause-value c =
     let P = c.args.self.now in
     let first = c.args.first in
     let k = c.args.k in
-    let i = c.middle-i.result in
-    let j = c.last-j.result in
+    let i = c.places-i.result.0 in
+    let j = c.places-i.result.1 in
     let s = first.sum + get_or P.sums i 0 + get_or P.sums j 0 in
     let l = c.smaller-l.result in
     let l-is : l ≡ min (get_or P.leasts j 0) (min (get_or P.leasts i 0) first.least) = c.smaller-l.ensures ∙ ap (min (get_or P.leasts j 0)) c.smaller.ensures in
     scored_reads s l (omega (arith, first.small_sum, P.usable_sums i, P.usable_sums j)) (omega (arith, l-is, P.usable_leasts j))
     ∙ ap (scored s) l-is
-    ∙ figure-read P.sums P.leasts first.sum first.least k c.middle-i.ensures.is c.last-j.ensures.is
+    ∙ figure-read P.sums P.leasts first.sum first.least k c.places-i.ensures.middle c.places-i.ensures.last
 
 pub returns-clause-within : goal.returns-clause-within
 returns-clause-within c =
     let P = c.args.self.now in
     let first = c.args.first in
-    let i = c.middle-i.result in
-    let j = c.last-j.result in
+    let i = c.places-i.result.0 in
+    let j = c.places-i.result.1 in
     let s = first.sum + get_or P.sums i 0 + get_or P.sums j 0 in
     let l = c.smaller-l.result in
     let a : s ≤ 6 * widest + 1 = omega (arith, first.small_sum, P.usable_sums i, P.usable_sums j) in
