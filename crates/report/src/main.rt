@@ -105,6 +105,7 @@ fn count_all(system: &mut System, counts: &mut Counts) -> Result<(), NotRead> {
     all
 }
 
+// Stays: an array and the length that was put, as in `capture`.
 fn print_sheet(system: &mut System, counts: &Counts) {
     let mut text = [0u8; SHEET];
     let n = sheet::write_sheet(counts.tally, &counts.table, &mut text);

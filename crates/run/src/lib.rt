@@ -26,8 +26,7 @@ fn run_through(bytes: &[u8], last: bool, start: Start, out: &mut [u8]) -> Outcom
     let mut walk = Walk::new(bytes, last);
     let mut previous = start.previous;
     let mut put = 0;
-    // Stays: tried as `for record in walk.by_ref()`, the proof did not close: the library does not say that `next` of a `&mut` keeps the
-    // reference, so nothing is known of the walk after the loop.
+    // Stays: as in `counting::count_records`, where `for record in walk.by_ref()` was tried: nothing would be known of the walk after the loop.
     while let Some(record) = walk.next() {
         let follows = sequence::follows(previous, record.number);
         put = answers::write_answer(&record.reading, follows, out, put);

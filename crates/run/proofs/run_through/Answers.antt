@@ -56,18 +56,18 @@ returns c =
     let I = c.loop-record.invariant in
     let stays = c.in_default.ensures.steps.same in
     elim c.match-stop.branch [
-      in-Some-stop w ↦
-        let stands = walk-stopped c.loop-record.walk I.bytes I.last (rw stays at w.in-Some-stop.ensures) in
-        let small : w.from.result < 2 ^ 8 = search rules in
-        let some : c.is_some.result ≡ true = search rules in
-        rw (stays, w.out-is, w.put-is, some)
-        (up_stopped c.args.last c.args.start.previous c.args.start.offset c.args.bytes.now c.args.out.now c.requires I.upto
-        (stands ∙ ap stopped (sym w.from.ensures))
-        small
-        (stop-line w.from.result c.args.start.offset (λ i. (stays i).at) w.write_stopped-put.ensures))
-    | in_default-stop w ↦
-        let none : c.is_some.result ≡ false = search rules in
-        let stands = walk-ended c.loop-record.walk I.bytes I.last c.in_default.ensures.steps.none (rw stays at w.in_default-stop.ensures) in
-        rw (stays, w.out-is, w.put-is, none)
-        (up_ended c.args.last c.args.start.previous c.args.start.offset c.args.bytes.now c.args.out.now c.requires I.upto stands)
+      | in-Some-stop w ↦
+          let stands = walk-stopped c.loop-record.walk I.bytes I.last (rw stays at w.in-Some-stop.ensures) in
+          let small : w.from.result < 2 ^ 8 = search rules in
+          let some : c.is_some.result ≡ true = search rules in
+          rw (stays, w.out-is, w.put-is, some)
+          (up_stopped c.args.last c.args.start.previous c.args.start.offset c.args.bytes.now c.args.out.now c.requires I.upto
+          (stands ∙ ap stopped (sym w.from.ensures))
+          small
+          (stop-line w.from.result c.args.start.offset (λ i. (stays i).at) w.write_stopped-put.ensures))
+      | in_default-stop w ↦
+          let none : c.is_some.result ≡ false = search rules in
+          let stands = walk-ended c.loop-record.walk I.bytes I.last c.in_default.ensures.steps.none (rw stays at w.in_default-stop.ensures) in
+          rw (stays, w.out-is, w.put-is, none)
+          (up_ended c.args.last c.args.start.previous c.args.start.offset c.args.bytes.now c.args.out.now c.requires I.upto stands)
     ]
