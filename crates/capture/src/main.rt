@@ -5,7 +5,7 @@ ghost use Rattle.std.specs.Prelude.{◌≡◌, ◌≤◌};
 ghost use Rattle.outside.specs.Reader.{Stays};
 
 use lines::LONGEST;
-use outside::captures::{HELD, Turns, read_capture};
+use outside::captures::{HELD, Left, Turns, read_capture};
 use outside::close;
 use outside::kinds::{Input, Source, System, Unwritten};
 use run::kinds::Start;
@@ -46,14 +46,17 @@ impl Lines {
 // Writes the text of the whole records that are there.
 impl Turns for Lines {
     // One whose text can't be written is the last, as one that stopped.
-    fn turn(&mut self, system: &mut System, held: &mut [u8], offset: u64) -> Option<usize> {
+    fn turn(&mut self, system: &mut System, held: &mut [u8], offset: u64) -> Option<Left> {
         let turned = turns::turn(held, held.len(), self.start(offset), &mut self.text);
         self.previous = turned.outcome.previous;
         self.write_text(system, turned.outcome.put).ok()?;
         if turned.outcome.stopped {
             return None;
         }
-        Some(turned.left)
+        Some(Left {
+            count: turned.left,
+            offset: turned.next,
+        })
     }
 
     fn last(&mut self, system: &mut System, left: &[u8], offset: u64) {
@@ -84,11 +87,12 @@ fn decode(system: &mut System, input: &mut Source, name: &[u8]) {
         return;
     }
     system.shows = shows_progress(system);
+    let mut held = [0u8; HELD];
     let mut lines = Lines {
         previous: None,
         text: [0; TEXT],
     };
-    if let Err(why) = read_capture(system, input, &mut lines) {
+    if let Err(why) = read_capture(system, input, &mut held, &mut lines) {
         // The failure is to stand on a line without progress.
         system.clear_progress();
         system.fail(name, why);

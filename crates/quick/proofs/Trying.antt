@@ -15,7 +15,6 @@ use Rattle.signs.specs.Fillings.{zero_word, Filling}
 use Rattle.signs.proofs.Fillings.{Subset, subset_all, subset_le, subset_filling, filling_subset}
 use Rattle.signs.proofs.Steps.{Lower, step_lower}
 use Rattle.decision.specs.Decision.{Decides}
-use Rattle.quick.specs.Quick.{Highest}
 
 -- the filling that has a 1 at each zero
 pub highest_filling : {xs : List ℤ} {least places : ℕ} → least ≡ sign_word xs → places ≡ zero_word xs → Filling xs (least + places)
@@ -26,13 +25,13 @@ pub record Tried (c : ℕ) (xs : List ℤ) (s : ℕ) : Type 0 where
   pub subset : Subset xs s
   pub higher : (v : ℕ) → Subset xs v → s ≤ v → Decides (sign_word xs + v) xs (accepted c)
 
-module _ {c : ℕ} {xs : List ℤ} {least places : ℕ} (H : Highest c least places xs) where
-  pub tried_first : Tried c xs places
-  tried_first = record {
-    subset = subst (Subset xs) (sym H.zeros) (subset_all xs);
+module _ {c : ℕ} {xs : List ℤ} {least places : ℕ} (l : least ≡ sign_word xs) (z : places ≡ zero_word xs) where
+  pub tried_first : Decides (least + places) xs (accepted c) → Tried c xs places
+  tried_first d = record {
+    subset = subst (Subset xs) (sym z) (subset_all xs);
     higher = λ v k h.
-        let e : least + places ≡ sign_word xs + v = omega (arith, H.signs, H.zeros, subset_le xs v k) in
-        subst (λ (w : ℕ). Decides w xs (accepted c)) e H.decided;
+        let e : least + places ≡ sign_word xs + v = omega (arith, l, z, subset_le xs v k) in
+        subst (λ (w : ℕ). Decides w xs (accepted c)) e d;
   }
 
   module _ {s : ℕ} (T : Tried c xs s) (p : 0 < s) where
@@ -40,10 +39,10 @@ module _ {c : ℕ} {xs : List ℤ} {least places : ℕ} (H : Highest c least pla
     next = bit_and (s - 1) places
 
     lower : Lower xs s next
-    lower = subst (λ (w : ℕ). Lower xs s (bit_and (s - 1) w)) (sym H.zeros) (step_lower xs s T.subset p)
+    lower = subst (λ (w : ℕ). Lower xs s (bit_and (s - 1) w)) (sym z) (step_lower xs s T.subset p)
 
     next_filling : Filling xs (least + next)
-    next_filling = subst (λ (w : ℕ). Filling xs (w + next)) (sym H.signs) (subset_filling xs next lower.subset)
+    next_filling = subst (λ (w : ℕ). Filling xs (w + next)) (sym l) (subset_filling xs next lower.subset)
 
     -- it is a word of as many bits as there are positions
     pub next-short : {n : ℕ} → length xs ≤ n → least + next < 2 ^ n
@@ -57,7 +56,7 @@ module _ {c : ℕ} {xs : List ℤ} {least places : ℕ} (H : Highest c least pla
           where
             go : Dec (v < s) → Decides (sign_word xs + v) xs (accepted c)
             go (yes q) =
-                let e : least + next ≡ sign_word xs + v = omega (arith, H.signs, lower.highest v k q) in
+                let e : least + next ≡ sign_word xs + v = omega (arith, l, lower.highest v k q) in
                 subst (λ (w : ℕ). Decides w xs (accepted c)) e d
             go (no q) = T.higher v k (omega arith)
 

@@ -2,12 +2,12 @@
 // that can't be read is told, and then no sheet is printed.
 #![tactic(auto)]
 
-ghost use Rattle.std.specs.Prelude.{◌+◌, ◌^◌, ◌<◌};
+ghost use Rattle.std.specs.Prelude.{◌≡◌, ◌+◌, ◌^◌, ◌<◌, None, Some, MatchOption};
 
 use counting::kinds::Counted;
 use golay::kinds::Refusal;
 use lines::LONGEST;
-use outside::captures::{Turns, read_capture};
+use outside::captures::{HELD, Left, Turns, read_capture};
 use outside::close;
 use outside::kinds::{Input, System};
 use sheet::{MESSAGE_LINE, OTHER_LINES};
@@ -38,23 +38,29 @@ struct Counts {
 struct NotRead;
 
 impl Counts {
-    // The tally after bytes from an offset on, and where they stopped.
-    fn note(&mut self, counted: Counted, offset: u64)
+    // The tally after bytes from an offset on, and where they stopped. Up to which offset they were counted.
+    fn note(&mut self, counted: Counted, offset: u64) -> u64
         requires { offset + counted.through < 2 ^ 64 }
+        ensures through { result ≡ offset + counted.through }
+        ensures told { MatchOption self.new.stop (counted.stop ≡ None) (λ stop. (counted.stop ≡ Some stop.reason) × (stop.offset ≡ offset + counted.through)) }
     {
         self.tally = counted.tally;
         let offset = offset + counted.through as u64;
         self.stop = counted.stop.map(|reason| Stop { reason, offset });
+        offset
     }
 }
 
 // Counts the whole records that are there.
 impl Turns for Counts {
-    fn turn(&mut self, system: &mut System, held: &mut [u8], offset: u64) -> Option<usize> {
+    fn turn(&mut self, system: &mut System, held: &mut [u8], offset: u64) -> Option<Left> {
         let turn = counting::count_turn(held, held.len(), self.tally, &mut self.table);
-        self.note(turn.counted, offset);
+        let next = self.note(turn.counted, offset);
         match turn.counted.stop {
-            None => Some(turn.left),
+            None => Some(Left {
+                count: turn.left,
+                offset: next,
+            }),
             Some(_) => None,
         }
     }
@@ -76,11 +82,16 @@ fn tell_stop(system: &mut System, name: &[u8], stop: Stop) {
 }
 
 // Counts the capture that an argument names, and tells what went wrong with it.
-fn count_argument(system: &mut System, place: usize, counts: &mut Counts) -> Result<(), NotRead> {
+fn count_argument(
+    system: &mut System,
+    place: usize,
+    held: &mut [u8; HELD],
+    counts: &mut Counts,
+) -> Result<(), NotRead> {
     let mut name = [0u8; 4096];
     let Input { mut source, name } = system.open_argument(place, &mut name).ok_or(NotRead)?;
     counts.stop = None;
-    let read = read_capture(system, &mut source, counts);
+    let read = read_capture(system, &mut source, held, counts);
     system.clear_progress();
     if let Err(why) = read {
         system.fail(name, why);
@@ -93,14 +104,18 @@ fn count_argument(system: &mut System, place: usize, counts: &mut Counts) -> Res
 }
 
 // All captures in their order: standard input where no argument names one.
-fn count_all(system: &mut System, counts: &mut Counts) -> Result<(), NotRead> {
+fn count_all(
+    system: &mut System,
+    held: &mut [u8; HELD],
+    counts: &mut Counts,
+) -> Result<(), NotRead> {
     let first = system.first_argument();
-    let mut all = count_argument(system, first, counts);
+    let mut all = count_argument(system, first, held, counts);
     for place in first + 1..usize::MAX {
         if system.unread || !system.has_argument(place) {
             break;
         }
-        all = all.and(count_argument(system, place, counts));
+        all = all.and(count_argument(system, place, held, counts));
     }
     all
 }
@@ -115,12 +130,13 @@ fn print_sheet(system: &mut System, counts: &Counts) {
 fn main(rt: HostRuntime) -> ExitCode {
     let mut system = System::new(rt);
     system.shows = system.is_watched();
+    let mut held = [0u8; HELD];
     let mut counts = Counts {
         tally: Tally::default(),
         table: [0; TABLE],
         stop: None,
     };
-    if count_all(&mut system, &mut counts).is_ok() {
+    if count_all(&mut system, &mut held, &mut counts).is_ok() {
         print_sheet(&mut system, &counts);
     }
     system.status()

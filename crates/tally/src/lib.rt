@@ -32,12 +32,22 @@ pub fn counted(t: Tally, counts: &mut [u32], reading: &[i32]) -> Result<Tally, u
     }
 }
 
-// Counts a reading, in place: rule 15.11's three statements. Refuses 1, then 12.
+// The same, handed back whole: the tally after it, which a refusal leaves as it was, and 0 where the reading was counted, else the number.
 // Stays: the C interface asks for the number, and for 0 where the reading was counted.
+fn step(t: Tally, counts: &mut [u32], reading: &[i32]) -> (Tally, u8)
+    ensures { Counts reading.now (totals t counts.old) (totals result.0 counts.new) result.1 }
+{
+    match counted(t, counts, reading) {
+        Ok(tally) => (tally, 0),
+        Err(number) => (t, number),
+    }
+}
+
+// Counts a reading, in place: three statements, and what is decided is decided by the step (rule 15.11). Refuses 1, then 12.
 pub fn count(tally: &mut Tally, counts: &mut [u32], reading: &[i32]) -> u8
     ensures { Counts reading.now (totals tally.old counts.old) (totals tally.new counts.new) result }
 {
-    let answer = counted(*tally, counts, reading);
-    *tally = answer.unwrap_or(*tally);
-    answer.err().unwrap_or(0)
+    let (after, status) = step(*tally, counts, reading);
+    *tally = after;
+    status
 }
