@@ -21,8 +21,8 @@ pub struct Left {
 
 // What is made of a capture's bytes, turn by turn.
 pub trait Turns {
-    // A turn over the bytes that are held, which begin at an offset of the capture and which more may follow. Each is passed or left; none left is
-    // the last turn.
+    // A turn over the bytes that are held, which begin at an offset of the capture and which more may follow: each is passed or left. With no answer
+    // it is the last turn.
     fn turn(&mut self, system: &mut System, held: &mut [u8], offset: u64) -> Option<Left>
         requires held_bound { length held.old ≤ 65536 }
         requires offset_bound { offset + length held.old < 2 ^ 64 }

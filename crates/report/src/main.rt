@@ -3,6 +3,7 @@
 #![tactic(auto)]
 
 ghost use Rattle.std.specs.Prelude.{◌≡◌, ◌+◌, ◌^◌, ◌<◌, None, Some, MatchOption};
+ghost use Rattle.outside.specs.Reader.{Stays};
 
 use counting::kinds::Counted;
 use golay::kinds::Refusal;
@@ -72,7 +73,9 @@ impl Turns for Counts {
 }
 
 // Where and why a capture stopped, by its name.
-fn tell_stop(system: &mut System, name: &[u8], stop: Stop) {
+fn tell_stop(system: &mut System, name: &[u8], stop: Stop)
+    ensures { Stays system.old system.new }
+{
     let mut line = [0u8; LONGEST];
     let number = u8::from(stop.reason);
     let n = lines::write_stopped(number, stop.offset, &mut line, 0);
@@ -87,7 +90,9 @@ fn count_argument(
     place: usize,
     held: &mut [u8; HELD],
     counts: &mut Counts,
-) -> Result<(), NotRead> {
+) -> Result<(), NotRead>
+    ensures { Stays system.old system.new }
+{
     let mut name = [0u8; 4096];
     let Input { mut source, name } = system.open_argument(place, &mut name).ok_or(NotRead)?;
     counts.stop = None;
