@@ -43,6 +43,7 @@ impl Counts {
     fn note(&mut self, counted: Counted, offset: u64) -> u64
         requires { offset + counted.through < 2 ^ 64 }
         ensures through { result ≡ offset + counted.through }
+        ensures counted { (self.new.tally ≡ counted.tally) × (self.new.table ≡ self.old.table) }
         ensures told { MatchOption self.new.stop (counted.stop ≡ None) (λ stop. (counted.stop ≡ Some stop.reason) × (stop.offset ≡ offset + counted.through)) }
     {
         self.tally = counted.tally;
@@ -109,11 +110,9 @@ fn count_argument(
 }
 
 // All captures in their order: standard input where no argument names one.
-fn count_all(
-    system: &mut System,
-    held: &mut [u8; HELD],
-    counts: &mut Counts,
-) -> Result<(), NotRead> {
+fn count_all(system: &mut System, held: &mut [u8; HELD], counts: &mut Counts) -> Result<(), NotRead>
+    ensures { Stays system.old system.new }
+{
     let first = system.first_argument();
     let mut all = count_argument(system, first, held, counts);
     for place in first + 1..usize::MAX {
