@@ -2,10 +2,10 @@
 #![tactic(auto)]
 
 ghost use Rattle.std.specs.Prelude.{◌≡◌, ◌≤◌};
-ghost use Rattle.outside.specs.Reader.{Stays};
+ghost use Rattle.outside.specs.Reader.{StaysShown};
 
 use lines::LONGEST;
-use outside::captures::{HELD, Left, Turns, read_capture};
+use outside::captures::{HELD, Left, OffsetTurns, read_capture_in};
 use outside::close;
 use outside::kinds::{Input, Source, System, Unwritten};
 use run::kinds::Start;
@@ -37,14 +37,14 @@ impl Lines {
     // The first bytes of the text, to standard output.
     fn write_text(&self, system: &mut System, put: usize) -> Result<(), Unwritten>
         requires { put ≤ 65575 }
-        ensures { Stays system.old system.new }
+        ensures { StaysShown system.old system.new }
     {
         system.write_text(&self.text[..put])
     }
 }
 
 // Writes the text of the whole records that are there.
-impl Turns for Lines {
+impl OffsetTurns for Lines {
     // One whose text can't be written is the last, as one that stopped.
     fn turn(&mut self, system: &mut System, held: &mut [u8], offset: u64) -> Option<Left> {
         let turned = turns::turn(held, held.len(), self.start(offset), &mut self.text);
@@ -92,7 +92,7 @@ fn decode(system: &mut System, input: &mut Source, name: &[u8]) {
         previous: None,
         text: [0; TEXT],
     };
-    if let Err(why) = read_capture(system, input, &mut held, &mut lines) {
+    if let Err(why) = read_capture_in(system, input, &mut held, &mut lines) {
         // The failure is to stand on a line without progress.
         system.clear_progress();
         system.fail(name, why);

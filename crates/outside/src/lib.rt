@@ -5,10 +5,12 @@
 ghost use Rattle.std.specs.Prelude.{◌≡◌, ◌≤◌, false, true, length, IfErr, IfSome, IsErr, OnOk};
 ghost use Rattle.std.specs.IoError.{error_kind};
 ghost use Rattle.std.specs.Process.{exit_status};
-ghost use Rattle.outside.specs.Reader.{Stays};
+ghost use Rattle.outside.specs.Reader.{StaysShown};
 
 pub mod captures;
 pub mod kinds;
+#[cfg(test)]
+mod tests;
 
 use kinds::{Input, Source, System, Unwritten};
 use std::env::FillError;
@@ -80,7 +82,7 @@ impl System {
     // Where the reader is gone, that stays so.
     // Stays: the clause stands in each of these contracts, since it is of what was before and what is after; a ghost field or invariant speaks of one value.
     fn note(&mut self, written: io::Result<()>)
-        ensures stays { Stays self.old self.new }
+        ensures stays { StaysShown self.old self.new }
         ensures gone { IfErr written (λ why. error_kind why ≡ ErrorKind.BrokenPipe → self.new.unread ≡ true) }
         ensures ok { OnOk written (self.new.unread ≡ self.old.unread) }
     {
@@ -91,7 +93,7 @@ impl System {
 
     // To standard error, as far as it can be written.
     pub fn tell(&mut self, text: &[u8])
-        ensures { Stays self.old self.new }
+        ensures { StaysShown self.old self.new }
     {
         if !self.unread {
             let written = Print::write_all(&self.rt.stderr(), text);
@@ -101,7 +103,7 @@ impl System {
 
     // The reason alone, without the number that std adds to the system's words.
     fn tell_reason(&mut self, why: Error)
-        ensures { Stays self.old self.new }
+        ensures { StaysShown self.old self.new }
     {
         let text = InlineText::<96>::of(why);
         let all = text.as_str();
@@ -116,7 +118,7 @@ impl System {
 
     // What failed and why, on standard error; and that something failed, where that is asked for.
     pub fn fail(&mut self, what: &[u8], why: Error)
-        ensures { Stays self.old self.new }
+        ensures { StaysShown self.old self.new }
     {
         self.tell(what);
         self.tell(b": ");
@@ -130,7 +132,7 @@ impl System {
 
     // To standard output. That its reader is gone is no failure: who has enough ends the program, and it says nothing.
     pub fn write_text(&mut self, text: &[u8]) -> Result<(), Unwritten>
-        ensures stays { Stays self.old self.new }
+        ensures stays { StaysShown self.old self.new }
         ensures unread { self.old.unread ≡ true → IsErr result }
         ensures written { OnOk result (self.new.unread ≡ false) }
     {
@@ -156,7 +158,7 @@ impl System {
 
     // How far the run has come, whenever it is a mebibyte farther. What is written next, also a failure, begins the line again.
     pub fn show_progress(&mut self, before: u64, now: u64)
-        ensures { Stays self.old self.new }
+        ensures { StaysShown self.old self.new }
     {
         if self.shows && !self.unread && before / MEBIBYTE < now / MEBIBYTE {
             let done = now / MEBIBYTE;
@@ -166,7 +168,7 @@ impl System {
     }
 
     pub fn clear_progress(&mut self)
-        ensures { Stays self.old self.new }
+        ensures { StaysShown self.old self.new }
     {
         if self.shows {
             self.tell(b"\r\x1b[K");
@@ -192,7 +194,7 @@ impl System {
     // Opens the file that an argument names; `-`, or no argument, is standard input. Its name is put into the buffer. Where it can't be opened,
     // that is told.
     pub fn open_argument<'a>(&mut self, place: usize, name: &'a mut [u8]) -> Option<Input<'a>>
-        ensures stays { Stays self.old self.new }
+        ensures stays { StaysShown self.old self.new }
         ensures named { IfSome result (λ input. length input.name.now ≤ length name.old) }
     {
         let length = match self.rt.arg(place, name) {

@@ -3,12 +3,12 @@
 #![tactic(auto)]
 
 ghost use Rattle.std.specs.Prelude.{◌≡◌, ◌+◌, ◌^◌, ◌<◌, None, Some, MatchOption};
-ghost use Rattle.outside.specs.Reader.{Stays};
+ghost use Rattle.outside.specs.Reader.{StaysShown};
 
 use counting::kinds::Counted;
 use golay::kinds::Refusal;
 use lines::LONGEST;
-use outside::captures::{HELD, Left, Turns, read_capture};
+use outside::captures::{HELD, Left, OffsetTurns, read_capture_in};
 use outside::close;
 use outside::kinds::{Input, System};
 use sheet::{MESSAGE_LINE, OTHER_LINES};
@@ -54,7 +54,7 @@ impl Counts {
 }
 
 // Counts the whole records that are there.
-impl Turns for Counts {
+impl OffsetTurns for Counts {
     fn turn(&mut self, system: &mut System, held: &mut [u8], offset: u64) -> Option<Left> {
         let turn = counting::count_turn(held, held.len(), self.tally, &mut self.table);
         let next = self.note(turn.counted, offset);
@@ -75,7 +75,7 @@ impl Turns for Counts {
 
 // Where and why a capture stopped, by its name.
 fn tell_stop(system: &mut System, name: &[u8], stop: Stop)
-    ensures { Stays system.old system.new }
+    ensures { StaysShown system.old system.new }
 {
     let mut line = [0u8; LONGEST];
     let number = u8::from(stop.reason);
@@ -92,12 +92,12 @@ fn count_argument(
     held: &mut [u8; HELD],
     counts: &mut Counts,
 ) -> Result<(), NotRead>
-    ensures { Stays system.old system.new }
+    ensures { StaysShown system.old system.new }
 {
     let mut name = [0u8; 4096];
     let Input { mut source, name } = system.open_argument(place, &mut name).ok_or(NotRead)?;
     counts.stop = None;
-    let read = read_capture(system, &mut source, held, counts);
+    let read = read_capture_in(system, &mut source, held, counts);
     system.clear_progress();
     if let Err(why) = read {
         system.fail(name, why);
@@ -111,7 +111,7 @@ fn count_argument(
 
 // All captures in their order: standard input where no argument names one.
 fn count_all(system: &mut System, held: &mut [u8; HELD], counts: &mut Counts) -> Result<(), NotRead>
-    ensures { Stays system.old system.new }
+    ensures { StaysShown system.old system.new }
 {
     let first = system.first_argument();
     let mut all = count_argument(system, first, held, counts);

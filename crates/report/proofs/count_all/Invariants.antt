@@ -1,7 +1,7 @@
 -- What is said of the system holds after each capture.
 -- Assumes nothing.
-use Rattle.outside.specs.Reader.{Stays}
+use Rattle.outside.specs.Reader.{StaysShown}
 use Rattle.report.proofs.count_all.Given as goal
 
 abbrev pub invariant-loop-place : goal.invariant-loop-place
-invariant-loop-place l = Stays l.initial.system l.system
+invariant-loop-place l = StaysShown l.initial.system l.system

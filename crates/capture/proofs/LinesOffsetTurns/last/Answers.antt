@@ -3,7 +3,7 @@
 use Rattle.std.proofs.Common.{◌≡◌, arith, length, rules}
 use Rattle.run.specs.Runs.{Room}
 use Rattle.run.proofs.Decided.{run_fits}
-use Rattle.capture.proofs.LinesTurns.last.Goals as goal
+use Rattle.capture.proofs.LinesOffsetTurns.last.Goals as goal
 
 pub write_text-requires : goal.write_text-requires
 write_text-requires c =

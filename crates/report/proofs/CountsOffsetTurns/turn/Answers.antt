@@ -3,7 +3,7 @@
 use Rattle.std.proofs.Common.{arith, ap}
 use Rattle.counting.specs.Counting.{stop_number}
 use Rattle.counting.proofs.Decided.{turn_left}
-use Rattle.report.proofs.CountsTurns.turn.Goals as goal
+use Rattle.report.proofs.CountsOffsetTurns.turn.Goals as goal
 
 pub note-next-requires : goal.note-next-requires
 note-next-requires c = omega (arith, (turn_left c.count_turn-turn.ensures (omega arith)).0, c.requires.offset_bound)

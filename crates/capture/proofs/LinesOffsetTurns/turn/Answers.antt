@@ -6,7 +6,7 @@ use Rattle.records.specs.Records.{new_length}
 use Rattle.run.proofs.Decided.{run_fits, run_near, run_left}
 use Rattle.turns.specs.declared.kinds.Turned.{Turned}
 use Rattle.turns.specs.Turns.{Turns, TurnRoom}
-use Rattle.capture.proofs.LinesTurns.turn.Goals as goal
+use Rattle.capture.proofs.LinesOffsetTurns.turn.Goals as goal
 
 -- all that is held, which the text has room for
 room :

@@ -2,12 +2,12 @@
 -- Assumes nothing.
 use Rattle.std.proofs.Common.{◌+◌, ◌-◌, ◌^◌, ◌<◌}
 use Rattle.records.specs.Records.{new_length}
-use Rattle.outside.specs.Reader.{Stays}
-use Rattle.outside.proofs.captures.read_capture.Given as goal
+use Rattle.outside.specs.Reader.{StaysShown}
+use Rattle.outside.proofs.captures.read_capture_in.Given as goal
 
 abbrev pub invariant-loop-offset : goal.invariant-loop-offset
 invariant-loop-offset g l = record {
-  reader : Stays l.initial.system l.system;
+  reader : StaysShown l.initial.system l.system;
   short : l.count < new_length;
   near : l.offset + l.count < 2 ^ 64;
 }
