@@ -68,7 +68,7 @@ pub fn read_capture_in<R: Read, T: OffsetTurns>(
     Ok(())
 }
 
-// The same, of turns that answer alone how many bytes are left, and that may change whether progress is shown.
+// What is made of a capture's bytes by turns that answer only how many are left, and that may change whether progress is shown.
 pub trait Turns {
     // A turn over the bytes that are held, which begin at an offset of the capture and which more may follow. How many are left then, in front;
     // none is the last turn.
@@ -86,14 +86,14 @@ pub trait Turns {
         ensures { Stays system.old system.new };
 }
 
-// Such turns, and whether progress is shown while they run.
+// Such turns, and whether they show progress, which the system says only while one runs.
 #[derive(Drop)]
 struct Shown<'a, T> {
     turns: &'a mut T,
     shows: bool,
 }
 
-// Progress is shown here, as the turn left it, and not by what reads.
+// Progress is shown here, if the turn left it so; while what reads runs on, it is off.
 impl<T: Turns> OffsetTurns for Shown<'_, T> {
     fn turn(&mut self, system: &mut System, held: &mut [u8], offset: u64) -> Option<Left> {
         mem::swap(&mut self.shows, &mut system.shows);

@@ -174,16 +174,21 @@ fn a_capture_may_be_long(rt: HostRuntime) -> Result<(), Fail> {
     Ok(())
 }
 
+// So is whether progress is shown: as the last turn left it, or where there was none, as it was.
 #[test]
 fn a_failure_is_handed_on(rt: HostRuntime) {
     let mut system = System::new(rt);
-    let mut turns = AtMost::new(3);
-    let mut input = Long {
-        left: 100,
-        failure: Some(ErrorKind::TimedOut),
-    };
-    let failure = read_capture(&mut system, &mut input, &mut turns).map_err(|why| why.kind());
-    assert_eq!(system.rt; failure, Err(ErrorKind::TimedOut));
-    assert_eq!(system.rt; turns.turns, 1);
-    assert_eq!(system.rt; turns.last, None);
+    for (left, turns_then, shows_then) in [(100, 1, false), (0, 0, true)] {
+        system.shows = true;
+        let mut turns = AtMost::new(3);
+        let mut input = Long {
+            left,
+            failure: Some(ErrorKind::TimedOut),
+        };
+        let failure = read_capture(&mut system, &mut input, &mut turns).map_err(|why| why.kind());
+        assert_eq!(system.rt; failure, Err(ErrorKind::TimedOut));
+        assert_eq!(system.rt; turns.turns, turns_then);
+        assert_eq!(system.rt; turns.last, None);
+        assert_eq!(system.rt; system.shows, shows_then);
+    }
 }
